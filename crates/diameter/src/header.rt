@@ -1,10 +1,8 @@
 //! The header of a message.
 ghost use mathlib.Core.Path.{_≡_};
-ghost use mathlib.Core.Bool.{cond};
-ghost use lib.Dec.{leb};
 ghost use lib.ListN.{length};
 ghost use Rattle.std.specs.Options.{Cases as BySome};
-ghost use Prim.Native.Nat.{_<_};
+ghost use Prim.Native.Nat.{_<_, _≤_};
 ghost use Rattle.diameter.specs.Bytes.{flagged};
 ghost use Rattle.diameter.specs.Headers.{body, header-of};
 use crate::bytes::u24_at;
@@ -40,7 +38,7 @@ impl Header {
 
 /// The header of a message and the bytes of its AVPs, or none below 20 bytes.
 pub fn split_header(message: &[u8]) -> Option<(Header, &[u8])>
-    ensures { λ r. ⌜ BySome r (length (now (message .entry)) < 20) (λ p. (p .0 ≡ header-of (now (message .entry))) × (now (p .1) ≡ body (now (message .entry)))) ⌝ }
+    ensures { λ r. ⌜ BySome r (length (now (message .entry)) < 20) (λ p. (20 ≤ length (now (message .entry))) × (p .0 ≡ header-of (now (message .entry))) × (now (p .1) ≡ body (now (message .entry)))) ⌝ }
 {
     if message.len() < Header::SIZE {
         return None;

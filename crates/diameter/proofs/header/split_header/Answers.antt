@@ -3,4 +3,4 @@ use borrow.Author.Needs.{needs}
 use Rattle.diameter.proofs.header.split_header.Needs as need
 
 pub returns : need.returns
-returns c = (search needs, take-rest (c .args .message .now) 20)
+returns c = (search needs, search needs, take-rest (c .args .message .now) 20)
