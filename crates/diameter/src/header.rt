@@ -36,6 +36,14 @@ impl Header {
     }
 }
 
+/// The bytes after the header.
+fn after_header(message: &[u8]) -> &[u8]
+    requires { ⌜ 20 ≤ length (now message) ⌝ }
+    ensures { λ r. ⌜ now r ≡ body (now (message .entry)) ⌝ }
+{
+    &message[Header::SIZE..]
+}
+
 /// The header of a message and the bytes of its AVPs, or none below 20 bytes.
 pub fn split_header(message: &[u8]) -> Option<(Header, &[u8])>
     ensures { λ r. ⌜ BySome r (length (now (message .entry)) < 20) (λ p. (20 ≤ length (now (message .entry))) × (p .0 ≡ header-of (now (message .entry))) × (now (p .1) ≡ body (now (message .entry)))) ⌝ }
@@ -52,5 +60,5 @@ pub fn split_header(message: &[u8]) -> Option<(Header, &[u8])>
         hop_by_hop: u32_at(message, 12),
         end_to_end: u32_at(message, 16),
     };
-    Some((header, &message[Header::SIZE..]))
+    Some((header, after_header(message)))
 }

@@ -32,13 +32,13 @@ pub fn first_such<'a, P: AvpTest>(test: &P, bytes: &'a [u8]) -> Option<AvpView<'
 pub fn count_such<P: AvpTest>(test: &P, bytes: &[u8]) -> usize
     ensures { λ r. ⌜ r ≡ count-such (holds (now (test .entry))) (avps (now (bytes .entry))) ⌝ }
 {
-    let mut rest = bytes;
     let mut count = 0;
-    while let Some((avp, after)) = split_avp(rest) {
+    let mut left = bytes;
+    while let Some((avp, after)) = split_avp(left) {
         if test.passes(avp) {
             count += 1;
         }
-        rest = after;
+        left = after;
     }
     count
 }

@@ -15,9 +15,9 @@ digit c =
     (cond (leb 0x61 c && leb c 0x66) (Some (c - 0x57))
     (cond (leb 0x41 c && leb c 0x46) (Some (c - 0x37)) None))
 
--- a space, a tab, a carriage return or the end of the line
+-- a space, a tab or a carriage return
 abbrev pub blank : ℕ → Bool
-blank c = eqb c 0x20 || (eqb c 0x09 || (eqb c 0x0D || eqb c 0x0A))
+blank c = eqb c 0x20 || (eqb c 0x09 || eqb c 0x0D)
 
 -- the bytes up to the first character that cannot be read, and the column of that
 pub record Spelled : Type 0 where

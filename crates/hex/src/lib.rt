@@ -29,7 +29,7 @@ pub fn digit_value(c: u8) -> Option<u8>
 fn is_blank(c: u8) -> bool
     ensures { λ r. ⌜ r ≡ blank c ⌝ }
 {
-    matches!(c, b' ' | b'\t' | b'\r' | b'\n')
+    matches!(c, b' ' | b'\t' | b'\r')
 }
 
 /// Appends the bytes that the text spells, two digits each; blanks may stand anywhere.

@@ -1,7 +1,6 @@
 //! Why a call is turned down: one case for each reason, with its number and the result code of its answer.
 ghost use mathlib.Core.Path.{_≡_};
-ghost use Rattle.refusal.specs.Refusals.{number, code, meaning};
-ghost use Rattle.std.specs.declared.option.Option.the-variants.{Some, None};
+ghost use Rattle.refusal.specs.Refusals.{number, code};
 use std::fmt;
 
 /// Why a call is turned down. The numbers are those of the interface; within a call the reasons are tried in their order.
@@ -22,6 +21,16 @@ pub enum Refusal {
 }
 
 impl Refusal {
+    /// Every refusal, in the order of the numbers.
+    pub const ALL: [Refusal; 6] = [
+        Refusal::WrongSize,
+        Refusal::NotRequest,
+        Refusal::WrongVersion,
+        Refusal::WrongApplication,
+        Refusal::WrongCommand,
+        Refusal::Unsound,
+    ];
+
     /// The number by which the interface names the refusal.
     pub fn number(self) -> u8
         ensures { λ r. ⌜ r ≡ number self ⌝ }
@@ -43,18 +52,18 @@ impl Refusal {
     }
 }
 
+/// What the refusal says, in words for people.
 pub impl fmt::Display for Refusal as RefusalDisplay {
-    ghost shown = { λ r. Some (meaning r) };
-
     fn fmt<W: fmt::Write>(&self, f: &mut fmt::Formatter<W>) -> fmt::Result {
-        let text = match self {
-            Refusal::WrongSize => "wrong size",
-            Refusal::NotRequest => "not a request",
-            Refusal::WrongVersion => "version not 1",
-            Refusal::WrongApplication => "application not e2",
-            Refusal::WrongCommand => "command neither UDR nor SNR",
-            Refusal::Unsound => "AVPs unsound",
-        };
-        f.write_str(text)
+        f.write_str(
+            match self {
+                Refusal::WrongSize => "message length wrong",
+                Refusal::NotRequest => "not a request",
+                Refusal::WrongVersion => "version not 1",
+                Refusal::WrongApplication => "application not e2",
+                Refusal::WrongCommand => "command neither UDR nor SNR",
+                Refusal::Unsound => "AVPs unsound",
+            },
+        )
     }
 }

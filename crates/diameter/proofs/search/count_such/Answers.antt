@@ -19,5 +19,5 @@ loop-avp-again g c =
 
 pub returns : need.returns
 returns g c =
-    let e = ap (count-such (g .P·AvpTest .holds (c .args .test .now))) (avps-stop (c .loop-avp .rest .now) (c .in-rest .ensures tt)) in
+    let e = ap (count-such (g .P·AvpTest .holds (c .args .test .now))) (avps-stop (c .loop-avp .left .now) (c .in-rest .ensures tt)) in
     omega arith
