@@ -3,6 +3,7 @@
 --     avps xs           the AVPs of xs, one after the other, up to the end or to the first place where none stands
 --     first-such p as   the first AVP that passes the test p
 --     count-such p as   how many pass it
+--     only-such p as    the one that passes it, where there is exactly one
 --     named c v         the test for code c and vendor v
 use mathlib.Core.Bool.{Bool, cond, _&&_}
 use mathlib.Core.List.{List, [], _∷_}
@@ -47,6 +48,9 @@ first-such p (a ∷ later) = cond (p a) (Some a) (first-such p later)
 abbrev pub count-such : (Avp → Bool) → List Avp → ℕ
 count-such p [] = 0
 count-such p (a ∷ later) = cond (p a) 1 0 + count-such p later
+
+abbrev pub only-such : (Avp → Bool) → List Avp → Option Avp
+only-such p later = cond (eqb (count-such p later) 1) (first-such p later) None
 
 abbrev pub named : ℕ → ℕ → Avp → Bool
 named c v a = eqb (a .code) c && eqb (a .vendor) v

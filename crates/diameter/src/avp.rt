@@ -27,6 +27,16 @@ pub struct AvpView<'a> {
 impl AvpView<'_> {
     /// The flag of an AVP whose header names a vendor.
     pub const VENDOR: u8 = 0x80;
+
+    /// The flag of an AVP that the receiver has to understand.
+    pub const MANDATORY: u8 = 0x40;
+
+    /// Whether the receiver has to understand the AVP.
+    pub fn is_mandatory(self) -> bool
+        ensures { λ r. ⌜ r ≡ flagged 0x40 (self .entry .flags) ⌝ }
+    {
+        self.flags & AvpView::MANDATORY != 0
+    }
 }
 
 /// What the header of an AVP says: its data are the bytes from `start` to `end`, and its padding ends at `next`.

@@ -1,7 +1,7 @@
 //! Searches over the AVPs of a sequence: one loop for the first AVP that passes a test, one for how many do.
 ghost use mathlib.Core.Path.{_≡_};
 ghost use mathlib.Core.Bool.{Bool};
-ghost use Rattle.diameter.specs.Lists.{Avp, avps, first-such, count-such, named};
+ghost use Rattle.diameter.specs.Lists.{Avp, avps, first-such, count-such, only-such, named};
 ghost use Rattle.diameter.specs.Views.{avp-of, found};
 use crate::avp::AvpView;
 use crate::avp::split_avp;
@@ -41,6 +41,17 @@ pub fn count_such<P: AvpTest>(test: &P, bytes: &[u8]) -> usize
         left = after;
     }
     count
+}
+
+/// The AVP that passes, where it is the only one.
+pub fn only_such<'a, P: AvpTest>(test: &P, bytes: &'a [u8]) -> Option<AvpView<'a>>
+    ensures { λ r. ⌜ found r ≡ only-such (holds (now (test .entry))) (avps (now (bytes .entry))) ⌝ }
+{
+    if count_such(test, bytes) == 1 {
+        first_such(test, bytes)
+    } else {
+        None
+    }
 }
 
 /// The test for a code and a vendor.

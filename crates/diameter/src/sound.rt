@@ -31,10 +31,58 @@ mod tests {
 
     // The worked example of the documentation: a Session-Id `x` with its padding, and an address group of two AVPs.
     const SEQUENCE: [u8; 52] = [
-        0, 0, 1, 7, 0x40, 0, 0, 9, b'x', 0, 0, 0, // Session-Id
-        0, 0, 1, 0x2C, 0xC0, 0, 0, 40, 0, 0, 0x32, 0xDB, // Globally-Unique-Address
-        0, 0, 0, 8, 0x40, 0, 0, 12, 10, 0, 0, 7, // Framed-IP-Address
-        0, 0, 1, 0x2D, 0xC0, 0, 0, 16, 0, 0, 0x32, 0xDB, b't', b'o', b'w', b'n', // Address-Realm
+        0,
+        0,
+        1,
+        7,
+        0x40,
+        0,
+        0,
+        9,
+        b'x',
+        0,
+        0,
+        0, // Session-Id
+        0,
+        0,
+        1,
+        0x2C,
+        0xC0,
+        0,
+        0,
+        40,
+        0,
+        0,
+        0x32,
+        0xDB, // Globally-Unique-Address
+        0,
+        0,
+        0,
+        8,
+        0x40,
+        0,
+        0,
+        12,
+        10,
+        0,
+        0,
+        7, // Framed-IP-Address
+        0,
+        0,
+        1,
+        0x2D,
+        0xC0,
+        0,
+        0,
+        16,
+        0,
+        0,
+        0x32,
+        0xDB,
+        b't',
+        b'o',
+        b'w',
+        b'n', // Address-Realm
     ];
 
     #[test]
@@ -42,8 +90,25 @@ mod tests {
         check(is_sound(&SEQUENCE, 1))?;
         check(!is_sound(&SEQUENCE, 0)).note("a group wants a level")?;
         check(!is_sound(&SEQUENCE[0..48], 1)).note("the last AVP passes the end")?;
-        check_eq(count_such(&Named { code: 263, vendor: 0 }, &SEQUENCE), 1)?;
-        check_eq(count_such(&Named { code: 8, vendor: 0 }, &SEQUENCE), 0).note("it stands inside the group")?;
-        check(first_such(&Named { code: 300, vendor: 13019 }, &SEQUENCE).is_some())
+        check_eq(
+            count_such(
+                &Named {
+                    code: 263,
+                    vendor: 0,
+                },
+                &SEQUENCE,
+            ),
+            1,
+        )?;
+        check_eq(count_such(&Named { code: 8, vendor: 0 }, &SEQUENCE), 0).note(
+            "it stands inside the group",
+        )?;
+        check(first_such(
+            &Named {
+                code: 300,
+                vendor: 13019,
+            },
+            &SEQUENCE,
+        ).is_some())
     }
 }

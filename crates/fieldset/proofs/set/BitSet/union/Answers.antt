@@ -1,0 +1,11 @@
+use mathlib.Core.Path.{refl}
+use lib.Bits.{or-lt}
+use Rattle.fieldset.proofs.Laws.{has-or}
+use Rattle.fieldset.proofs.set.BitSet.union.Needs as need
+
+pub ghost-result : need.ghost-result
+ghost-result g c =
+    (or-lt (g .WIDTH) (c .args .self .bits) (c .args .other .bits) (c .args .self .narrow) (c .args .other .narrow), tt)
+
+pub returns : need.returns
+returns g c = record { is = refl; each = has-or (c .args .self .bits) (c .args .other .bits) }
