@@ -1,11 +1,13 @@
--- The refusals as a table: for each its number and the Result-Code of its answer.
+-- The refusals as a table: for each its number and the result that its answer carries.
 --     number r     the number by which the interface names r
---     code r       the Result-Code of the answer to r, or none where there is no answer
+--     code r       the result that the answer to r carries, or none where there is no answer
 use Prim.Native.Nat.{ℕ}
 use Rattle.std.specs.declared.option.Option.{Option}
 use Rattle.std.specs.declared.option.Option.the-variants.{Some, None}
 use Rattle.refusal.specs.declared.Refusal.{Refusal}
-use Rattle.refusal.specs.declared.Refusal.the-variants.{WrongSize, NotRequest, WrongVersion, WrongApplication, WrongCommand, Unsound}
+use Rattle.refusal.specs.declared.Refusal.the-variants.{WrongSize, NotRequest, WrongVersion, WrongApplication, WrongCommand, Unsound, UnsupportedAvp, RepeatedAvp, MissingAvp, WrongAvp, WrongAf, AmbiguousUser, NoSession, NothingToShow, NoPlace}
+use Rattle.refusal.specs.declared.ResultCode.{ResultCode}
+use Rattle.refusal.specs.declared.ResultCode.the-variants.{Base, Experimental}
 
 abbrev pub number : Refusal → ℕ
 number WrongSize = 3
@@ -14,11 +16,29 @@ number WrongVersion = 5
 number WrongApplication = 6
 number WrongCommand = 7
 number Unsound = 8
+number UnsupportedAvp = 9
+number RepeatedAvp = 10
+number MissingAvp = 11
+number WrongAvp = 12
+number WrongAf = 13
+number AmbiguousUser = 14
+number NoSession = 15
+number NothingToShow = 16
+number NoPlace = 17
 
-abbrev pub code : Refusal → Option ℕ
+abbrev pub code : Refusal → Option ResultCode
 code WrongSize = None
 code NotRequest = None
-code WrongVersion = Some 5011
-code WrongApplication = Some 3007
-code WrongCommand = Some 3001
-code Unsound = Some 5014
+code WrongVersion = Some (Base 5011)
+code WrongApplication = Some (Base 3007)
+code WrongCommand = Some (Base 3001)
+code Unsound = Some (Base 5014)
+code UnsupportedAvp = Some (Base 5001)
+code RepeatedAvp = Some (Base 5009)
+code MissingAvp = Some (Base 5005)
+code WrongAvp = Some (Base 5004)
+code WrongAf = Some (Base 5003)
+code AmbiguousUser = Some (Base 5012)
+code NoSession = Some (Experimental 5001)
+code NothingToShow = Some (Experimental 4100)
+code NoPlace = Some (Base 5012)

@@ -18,17 +18,53 @@ pub enum Refusal {
     WrongCommand = 7,
     /// The message's AVPs are not a sound sequence.
     Unsound = 8,
+    /// An AVP that the receiver has to understand is none that we know.
+    UnsupportedAvp = 9,
+    /// An AVP that may stand once stands again.
+    RepeatedAvp = 10,
+    /// An AVP that the command needs is not there.
+    MissingAvp = 11,
+    /// An AVP has data that it may not have.
+    WrongAvp = 12,
+    /// The request names another application function than the one that asks.
+    WrongAf = 13,
+    /// The user name fits several sessions.
+    AmbiguousUser = 14,
+    /// No session fits.
+    NoSession = 15,
+    /// Of the fields asked for none is there to be shown.
+    NothingToShow = 16,
+    /// The application function has no place left for a subscription.
+    NoPlace = 17,
+}
+
+/// The result that an answer carries.
+#[derive(Clone, Copy, PartialEq, Eq, Debug)]
+pub enum ResultCode {
+    /// A Result-Code of the base protocol.
+    Base(u32),
+    /// An Experimental-Result of 3GPP, vendor 10415.
+    Experimental(u32),
 }
 
 impl Refusal {
     /// Every refusal, in the order of the numbers.
-    pub const ALL: [Refusal; 6] = [
+    pub const ALL: [Refusal; 15] = [
         Refusal::WrongSize,
         Refusal::NotRequest,
         Refusal::WrongVersion,
         Refusal::WrongApplication,
         Refusal::WrongCommand,
         Refusal::Unsound,
+        Refusal::UnsupportedAvp,
+        Refusal::RepeatedAvp,
+        Refusal::MissingAvp,
+        Refusal::WrongAvp,
+        Refusal::WrongAf,
+        Refusal::AmbiguousUser,
+        Refusal::NoSession,
+        Refusal::NothingToShow,
+        Refusal::NoPlace,
     ];
 
     /// The number by which the interface names the refusal.
@@ -38,16 +74,25 @@ impl Refusal {
         self as u8
     }
 
-    /// The Result-Code of the answer, or none where a call is turned down without an answer.
-    pub fn result_code(self) -> Option<u32>
+    /// The result that the answer carries, or none where a call is turned down without an answer.
+    pub fn result_code(self) -> Option<ResultCode>
         ensures { λ r. ⌜ r ≡ code self ⌝ }
     {
         match self {
             Refusal::WrongSize | Refusal::NotRequest => None,
-            Refusal::WrongVersion => Some(5011),
-            Refusal::WrongApplication => Some(3007),
-            Refusal::WrongCommand => Some(3001),
-            Refusal::Unsound => Some(5014),
+            Refusal::WrongVersion => Some(ResultCode::Base(5011)),
+            Refusal::WrongApplication => Some(ResultCode::Base(3007)),
+            Refusal::WrongCommand => Some(ResultCode::Base(3001)),
+            Refusal::Unsound => Some(ResultCode::Base(5014)),
+            Refusal::UnsupportedAvp => Some(ResultCode::Base(5001)),
+            Refusal::RepeatedAvp => Some(ResultCode::Base(5009)),
+            Refusal::MissingAvp => Some(ResultCode::Base(5005)),
+            Refusal::WrongAvp => Some(ResultCode::Base(5004)),
+            Refusal::WrongAf => Some(ResultCode::Base(5003)),
+            Refusal::AmbiguousUser => Some(ResultCode::Base(5012)),
+            Refusal::NoSession => Some(ResultCode::Experimental(5001)),
+            Refusal::NothingToShow => Some(ResultCode::Experimental(4100)),
+            Refusal::NoPlace => Some(ResultCode::Base(5012)),
         }
     }
 }
@@ -63,6 +108,15 @@ pub impl fmt::Display for Refusal as RefusalDisplay {
                 Refusal::WrongApplication => "application not e2",
                 Refusal::WrongCommand => "command neither UDR nor SNR",
                 Refusal::Unsound => "AVPs unsound",
+                Refusal::UnsupportedAvp => "AVP not supported",
+                Refusal::RepeatedAvp => "AVP repeated",
+                Refusal::MissingAvp => "AVP missing",
+                Refusal::WrongAvp => "AVP value wrong",
+                Refusal::WrongAf => "application function not the one that asks",
+                Refusal::AmbiguousUser => "user name fits several sessions",
+                Refusal::NoSession => "no session fits",
+                Refusal::NothingToShow => "nothing to show",
+                Refusal::NoPlace => "no place for a subscription",
             },
         )
     }

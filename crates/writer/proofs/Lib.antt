@@ -1,0 +1,5 @@
+pub mod Stores
+pub mod Digits
+pub mod Numbers
+pub mod Avps
+pub mod Written
