@@ -2,6 +2,7 @@
 --     known c v      which of them has the code c and the vendor v
 --     code k, vendor k, flags k   its name, and the flags that we write with it
 --     shortest k     the least length of its data, 0 for a group
+--     index k        its place in the dictionary, counted from 0
 --     repeats k      it may stand more than once in a request
 use mathlib.Core.Bool.{Bool, true, false, cond}
 use Prim.Native.Nat.{ℕ}
@@ -143,3 +144,24 @@ repeats EventType = true
 repeats AfApplicationIdentifier = false
 repeats SubsReqType = false
 repeats ExpiryTime = false
+
+-- its place in the dictionary
+abbrev pub index : Known → ℕ
+index UserName = 0
+index FramedIpAddress = 1
+index VendorSpecificApplicationId = 2
+index SessionId = 3
+index OriginHost = 4
+index AuthSessionState = 5
+index RouteRecord = 6
+index DestinationRealm = 7
+index ProxyInfo = 8
+index DestinationHost = 9
+index OriginRealm = 10
+index GloballyUniqueAddress = 11
+index AddressRealm = 12
+index RequestedInformation = 13
+index EventType = 14
+index AfApplicationIdentifier = 15
+index SubsReqType = 16
+index ExpiryTime = 17

@@ -1,6 +1,6 @@
 //! The known AVPs by name.
 ghost use mathlib.Core.Path.{_≡_};
-ghost use Rattle.dictionary.specs.Names.{code, vendor, flags, shortest, repeats};
+ghost use Rattle.dictionary.specs.Names.{code, vendor, flags, shortest, index, repeats};
 ghost use Rattle.dictionary.specs.Laws.{Names-agree};
 
 /// An AVP that a request may hold.
@@ -94,6 +94,13 @@ impl Known {
             | Known::ExpiryTime => 4,
             _ => 1,
         }
+    }
+
+    /// Its place in the dictionary, counted from 0.
+    pub fn index(self) -> u32
+        ensures { λ r. ⌜ r ≡ index self ⌝ }
+    {
+        self as u32
     }
 
     /// Whether it may stand more than once in a request.

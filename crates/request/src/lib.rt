@@ -1,0 +1,2 @@
+//! A request read: what is asked, of which session and by whom, or the first refusal with what its answer carries.
+pub mod asking;
