@@ -1,0 +1,3 @@
+pub mod Named
+pub mod Walks
+pub mod Unions

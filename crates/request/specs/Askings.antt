@@ -3,9 +3,11 @@
 --     Asking           a request that is right in itself
 --     Fault            what the answer to a refused one tells of its AVPs
 --     Rejected         why it is refused, with that
---     asking-of, rejected-of, reading-of   what the code's borrowed values mean
+--     asking-of, rejected-of, rejected-found, reading-of   what the code's borrowed values mean
 use mathlib.Core.List.{List}
 use Prim.Native.Nat.{ℕ}
+use Rattle.std.specs.Options.{mapped}
+use Rattle.std.specs.declared.option.Option.{Option}
 use Rattle.std.specs.declared.result.Result.{Result}
 use Rattle.std.specs.declared.result.Result.the-variants.{Ok, Err}
 use Rattle.refusal.specs.declared.Refusal.{Refusal}
@@ -54,6 +56,9 @@ fault-of (Lacking k) = lacks k
 
 abbrev pub rejected-of : Rejection → Rejected
 rejected-of r = record { refusal = r .refusal; carries = fault-of (r .carried) }
+
+abbrev pub rejected-found : Option Rejection → Option Rejected
+rejected-found r = mapped rejected-of r
 
 abbrev pub reading-of : Result Request Rejection → Result Asking Rejected
 reading-of (Ok r) = Ok (asking-of r)

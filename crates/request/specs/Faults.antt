@@ -14,6 +14,7 @@ use lib.ListN.{length}
 use Rattle.std.specs.Options.{isSome}
 use Rattle.std.specs.declared.option.Option.{Option}
 use Rattle.std.specs.declared.option.Option.the-variants.{Some, None}
+use Rattle.std.specs.shelf.Text.{sameBytes}
 use Rattle.diameter.specs.Bytes.{flagged}
 use Rattle.diameter.specs.Lists.{Avp, avps, first-such, named}
 use Rattle.e2.specs.declared.Command.{Command}
@@ -54,7 +55,7 @@ stranger l = first-such unsupported (with-parts l)
 -- 10
 abbrev pub also : Option Known → (Known → Bool) → Known → Bool
 also None seen k = seen k
-also (Some j) seen k = eqb (index j) (index k) || seen k
+also (Some j) seen k = seen k || eqb (index k) (index j)
 
 abbrev pub again : Option Known → (Known → Bool) → Bool
 again None seen = false
@@ -69,25 +70,34 @@ abbrev pub begins-with-session : List Avp → Bool
 begins-with-session [] = false
 begins-with-session (a ∷ later) = is SessionId a
 
-abbrev pub needed : Command → List Avp → List (Known × Bool)
-needed UserData l = []
-needed SubscribeNotifications l = (SubsReqType, there SubsReqType l) ∷ (EventType, there EventType l) ∷ []
-
 abbrev pub lacking : List (Known × Bool) → Option Known
 lacking [] = None
 lacking ((k, here) ∷ later) = cond here (lacking later) (Some k)
 
-abbrev pub missing : Command → List Avp → Option Known
-missing command l =
+-- what only the command needs, and whom it is about
+abbrev pub needed-by : Command → (Known → Bool) → List (Known × Bool)
+needed-by UserData here = (GloballyUniqueAddress, here GloballyUniqueAddress || here UserName) ∷ []
+needed-by SubscribeNotifications here =
+    (SubsReqType, here SubsReqType)
+    ∷ (EventType, here EventType)
+    ∷ (GloballyUniqueAddress, here GloballyUniqueAddress || here UserName)
+    ∷ []
+
+-- in the order of report, where `headed` says that the Session-Id is first and `here` which AVPs are there
+abbrev pub missing-by : Command → Bool → (Known → Bool) → Option Known
+missing-by command headed here =
     lacking
-    ((SessionId, begins-with-session l)
-    ∷ (VendorSpecificApplicationId, there VendorSpecificApplicationId l)
-    ∷ (AuthSessionState, there AuthSessionState l)
-    ∷ (OriginHost, there OriginHost l)
-    ∷ (OriginRealm, there OriginRealm l)
-    ∷ (DestinationRealm, there DestinationRealm l)
-    ∷ (AfApplicationIdentifier, there AfApplicationIdentifier l)
-    ∷ (needed command l ++ (GloballyUniqueAddress, there GloballyUniqueAddress l || there UserName l) ∷ []))
+    ((SessionId, headed)
+    ∷ (VendorSpecificApplicationId, here VendorSpecificApplicationId)
+    ∷ (AuthSessionState, here AuthSessionState)
+    ∷ (OriginHost, here OriginHost)
+    ∷ (OriginRealm, here OriginRealm)
+    ∷ (DestinationRealm, here DestinationRealm)
+    ∷ (AfApplicationIdentifier, here AfApplicationIdentifier)
+    ∷ needed-by command here)
+
+abbrev pub missing : Command → List Avp → Option Known
+missing command l = missing-by command (begins-with-session l) (λ k. there k l)
 
 -- 12
 abbrev pub is-wrong : Form → Bool
@@ -111,15 +121,9 @@ deadline UserData now l = None
 deadline SubscribeNotifications now l = cond (subscribes (first-such (is SubsReqType) l)) (Some now) None
 
 -- 13
-abbrev pub same-bytes : List ℕ → List ℕ → Bool
-same-bytes [] [] = true
-same-bytes [] (y ∷ ys) = false
-same-bytes (x ∷ xs) [] = false
-same-bytes (x ∷ xs) (y ∷ ys) = eqb x y && same-bytes xs ys
-
 abbrev pub unless-named : List ℕ → Option Avp → Option Avp
 unless-named name None = None
-unless-named name (Some a) = cond (same-bytes (a .payload) name) None (Some a)
+unless-named name (Some a) = cond (sameBytes (a .payload) name) None (Some a)
 
 abbrev pub foreign : List ℕ → List Avp → Option Avp
 foreign name l = unless-named name (first-such (is AfApplicationIdentifier) l)

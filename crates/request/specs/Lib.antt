@@ -1,3 +1,4 @@
 pub mod Faults
+pub mod Scans
 pub mod Askings
 pub mod Readings

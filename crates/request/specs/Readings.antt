@@ -24,6 +24,8 @@ use Rattle.dictionary.specs.declared.known.Known.{Known}
 use Rattle.dictionary.specs.declared.known.Known.the-variants.{UserName, OriginHost, OriginRealm, GloballyUniqueAddress, RequestedInformation, EventType, SubsReqType, ExpiryTime}
 use Rattle.request.specs.Faults.{is, there, stranger, repeated, missing, misfit, foreign, deadline, subscribes}
 use Rattle.request.specs.Askings.{Subject, at-address, of-user, Asking, Fault, copied, lacks, nothing, Rejected}
+use Rattle.request.specs.declared.number.Numbers.{Numbers}
+use Rattle.request.specs.declared.number.Numbers.the-variants.{Fields, Events}
 use Rattle.request.specs.declared.asking.Asked.{Asked}
 use Rattle.request.specs.declared.asking.Asked.the-variants.{UserData as ForUserData, Subscribe, Unsubscribe}
 
@@ -53,20 +55,33 @@ payload-or-none (Some a) = a .payload
 abbrev pub payload-at : Known → List Avp → List ℕ
 payload-at k l = payload-or-none (first-such (is k) l)
 
--- the union of the numbers that the AVPs k carry, as bits, and of the bits so far
+-- the AVP that carries numbers of this kind, and what they stand for
+abbrev pub carrier : Numbers → Known
+carrier Fields = RequestedInformation
+carrier Events = EventType
+
+abbrev pub meaning : Numbers → ℕ → Option ℕ
+meaning Fields n = field-of n
+meaning Events n = event-of n
+
 abbrev pub bit-of : Option ℕ → ℕ
 bit-of None = 0
 bit-of (Some n) = 2 ^ n
 
-unfoldable pub union : Known → (ℕ → Option ℕ) → ℕ → List Avp → ℕ
-union k meaning bits [] = bits
-union k meaning bits (a ∷ later) = union k meaning (cond (is k a) (bitOr bits (bit-of (meaning (word (a .payload))))) bits) later
+-- what one AVP adds
+abbrev pub adds : Numbers → Avp → ℕ
+adds kind a = cond (is (carrier kind) a) (bit-of (meaning kind (word (a .payload)))) 0
+
+-- the union of the numbers that the AVPs carry, as bits, and of the bits so far
+unfoldable pub union : Numbers → ℕ → List Avp → ℕ
+union kind bits [] = bits
+union kind bits (a ∷ later) = union kind (bitOr bits (adds kind a)) later
 
 abbrev pub requested : List Avp → Option ℕ
-requested l = cond (there RequestedInformation l) (Some (union RequestedInformation field-of 0 l)) None
+requested l = cond (there RequestedInformation l) (Some (union Fields 0 l)) None
 
 abbrev pub events : List Avp → ℕ
-events l = union EventType event-of 0 l
+events l = union Events 0 l
 
 abbrev pub end : List Avp → Option ℕ
 end l = mapped (λ (a : Avp). time-of (word (a .payload))) (first-such (is ExpiryTime) l)
