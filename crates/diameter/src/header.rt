@@ -62,3 +62,13 @@ pub fn split_header(message: &[u8]) -> Option<(Header, &[u8])>
     };
     Some((header, after_header(message)))
 }
+
+/// The bytes of a message's AVPs: those after the header, none where there are no more.
+pub fn body_of(message: &[u8]) -> &[u8]
+    ensures { λ r. ⌜ now r ≡ body (now (message .entry)) ⌝ }
+{
+    if message.len() < Header::SIZE {
+        return &message[0..0];
+    }
+    after_header(message)
+}

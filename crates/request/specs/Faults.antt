@@ -66,9 +66,13 @@ repeated seen [] = None
 repeated seen (a ∷ later) = cond (again (kind a) seen) (Some a) (repeated (also (kind a) seen) later)
 
 -- 11
-abbrev pub begins-with-session : List Avp → Bool
-begins-with-session [] = false
-begins-with-session (a ∷ later) = is SessionId a
+abbrev pub first : List Avp → Option Avp
+first [] = None
+first (a ∷ later) = Some a
+
+abbrev pub is-session : Option Avp → Bool
+is-session None = false
+is-session (Some a) = is SessionId a
 
 abbrev pub lacking : List (Known × Bool) → Option Known
 lacking [] = None
@@ -97,7 +101,7 @@ missing-by command headed here =
     ∷ needed-by command here)
 
 abbrev pub missing : Command → List Avp → Option Known
-missing command l = missing-by command (begins-with-session l) (λ k. there k l)
+missing command l = missing-by command (is-session (first l)) (λ k. there k l)
 
 -- 12
 abbrev pub is-wrong : Form → Bool

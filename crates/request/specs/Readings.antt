@@ -1,8 +1,9 @@
 -- A request read, by the table of its refusals.
 --     faults command name now l     refusals 9 to 13 in the order of trial, each with what it finds
 --     asking command l              what the AVPs ask, where none of these finds anything
+--     session-id m                  the Session-Id of m, where its AVPs are sound and begin with a right one
 --     reading m name now            what the message m of the application function `name` says at the time now
-use mathlib.Core.Bool.{Bool, false, cond}
+use mathlib.Core.Bool.{Bool, false, cond, _&&_}
 use mathlib.Core.List.{List, [], _∷_}
 use Prim.Native.Nat.{ℕ, _^_}
 use lib.Bits.{bitOr}
@@ -15,14 +16,15 @@ use Rattle.refusal.specs.declared.Refusal.{Refusal}
 use Rattle.refusal.specs.declared.Refusal.the-variants.{UnsupportedAvp, RepeatedAvp, MissingAvp, WrongAvp, WrongAf}
 use Rattle.diameter.specs.Headers.{body}
 use Rattle.diameter.specs.Lists.{Avp, avps, first-such}
+use Rattle.diameter.specs.Soundness.{sound}
 use Rattle.e2.specs.Checks.{checked}
 use Rattle.e2.specs.declared.Command.{Command}
 use Rattle.e2.specs.declared.Command.the-variants.{UserData, SubscribeNotifications}
-use Rattle.dictionary.specs.Addresses.{Address, address-in}
+use Rattle.dictionary.specs.Addresses.{Address, address-in, sized}
 use Rattle.dictionary.specs.Numbers.{word, field-of, event-of, time-of}
 use Rattle.dictionary.specs.declared.known.Known.{Known}
-use Rattle.dictionary.specs.declared.known.Known.the-variants.{UserName, OriginHost, OriginRealm, GloballyUniqueAddress, RequestedInformation, EventType, SubsReqType, ExpiryTime}
-use Rattle.request.specs.Faults.{is, there, stranger, repeated, missing, misfit, foreign, deadline, subscribes}
+use Rattle.dictionary.specs.declared.known.Known.the-variants.{UserName, SessionId, OriginHost, OriginRealm, GloballyUniqueAddress, RequestedInformation, EventType, SubsReqType, ExpiryTime}
+use Rattle.request.specs.Faults.{is, there, first, stranger, repeated, missing, misfit, foreign, deadline, subscribes}
 use Rattle.request.specs.Askings.{Subject, at-address, of-user, Asking, Fault, copied, lacks, nothing, Rejected}
 use Rattle.request.specs.declared.number.Numbers.{Numbers}
 use Rattle.request.specs.declared.number.Numbers.the-variants.{Fields, Events}
@@ -114,3 +116,12 @@ after-check (Ok command) name now l = unless-refused (first-fault (faults comman
 
 abbrev pub reading : List ℕ → List ℕ → ℕ → Result Asking Rejected
 reading m name now = after-check (checked m) name now (avps (body m))
+
+-- the data of an AVP, where it is a right Session-Id
+abbrev pub right-session : Option Avp → Option (List ℕ)
+right-session None = None
+right-session (Some a) = cond (is SessionId a && sized 1 128 (a .payload)) (Some (a .payload)) None
+
+-- the Session-Id that an answer to m carries
+abbrev pub session-id : List ℕ → Option (List ℕ)
+session-id m = cond (sound 3 (body m)) (right-session (first (avps (body m)))) None

@@ -2,9 +2,10 @@
 ghost use mathlib.Core.Path.{_≡_};
 ghost use Rattle.diameter.specs.Lists.{avps, first-such};
 ghost use Rattle.diameter.specs.Views.{avp-of, found};
-ghost use Rattle.request.specs.Faults.{is};
+ghost use Rattle.request.specs.Faults.{is, first};
 ghost use Rattle.request.specs.Readings.{payload-at};
 use diameter::avp::AvpView;
+use diameter::avp::split_avp;
 use diameter::search::Named;
 use diameter::search::NamedTest;
 use diameter::search::first_such;
@@ -15,6 +16,16 @@ pub(crate) fn is_named(avp: AvpView<'_>, known: Known) -> bool
     ensures { λ r. ⌜ r ≡ is known (avp-of (avp .entry)) ⌝ }
 {
     avp.code == known.code() && avp.vendor == known.vendor()
+}
+
+/// The first AVP.
+pub(crate) fn first_avp<'a>(bytes: &'a [u8]) -> Option<AvpView<'a>>
+    ensures { λ r. ⌜ found r ≡ first (avps (now (bytes .entry))) ⌝ }
+{
+    match split_avp(bytes) {
+        Some((avp, _)) => Some(avp),
+        None => None,
+    }
 }
 
 /// The first AVP of this name.

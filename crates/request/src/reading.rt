@@ -1,22 +1,24 @@
 //! A request read: first the message as such, then its AVPs for each fault in turn, then what they ask.
 ghost use mathlib.Core.Path.{_≡_};
 ghost use Rattle.std.specs.declared.option.Option.the-variants.{Some, None};
+ghost use Rattle.std.specs.Options.{Cases as BySome};
 ghost use Rattle.std.specs.shelf.Text.{sameBytes};
 ghost use Rattle.diameter.specs.Lists.{avps, first-such};
 ghost use Rattle.diameter.specs.Views.{found};
 ghost use Rattle.dictionary.specs.Addresses.{address-in};
-ghost use Rattle.request.specs.Faults.{is, begins-with-session, lacking, needed-by, missing-by, subscribes, deadline, foreign};
+ghost use Rattle.request.specs.Faults.{is, first, is-session, lacking, needed-by, missing-by, subscribes, deadline, foreign};
 ghost use Rattle.request.specs.Scans.{Scans};
 ghost use Rattle.fieldset.specs.Sets.{has};
 ghost use Rattle.dictionary.specs.Names.{index};
 ghost use Rattle.request.specs.Askings.{subject-of, rejected-found, asking-of, reading-of};
-ghost use Rattle.request.specs.Readings.{first-fault, faults, payload-at, requested, events, end, asked, by-address, asking, reading};
+ghost use Rattle.request.specs.Readings.{first-fault, faults, payload-at, requested, events, end, asked, by-address, asking, reading, right-session, session-id};
 use crate::asking::Asked;
 use crate::asking::Carried;
 use crate::asking::Rejection;
 use crate::asking::Request;
 use crate::asking::Target;
 use crate::finding::find;
+use crate::finding::first_avp;
 use crate::finding::is_named;
 use crate::finding::payload_of;
 use crate::number::Numbers;
@@ -24,14 +26,15 @@ use crate::number::union_of;
 use crate::scan::Scan;
 use crate::scan::walk;
 use diameter::avp::AvpView;
-use diameter::avp::split_avp;
-use diameter::header::split_header;
+use diameter::header::body_of;
+use diameter::sound::is_sound;
 use dictionary::address::read_address;
 use dictionary::known::Known;
 use dictionary::number::Time;
 use dictionary::number::named_time;
 use dictionary::number::word;
 use e2::Command;
+use e2::REQUEST_LEVELS;
 use e2::check;
 use refusal::Refusal;
 
@@ -63,10 +66,10 @@ fn deadline_of(bytes: &[u8], command: Command, time: Time) -> Option<Time>
 
 /// Whether the first AVP is the Session-Id.
 fn is_headed(bytes: &[u8]) -> bool
-    ensures { λ r. ⌜ r ≡ begins-with-session (avps (now (bytes .entry))) ⌝ }
+    ensures { λ r. ⌜ r ≡ is-session (first (avps (now (bytes .entry)))) ⌝ }
 {
-    match split_avp(bytes) {
-        Some((avp, _)) => is_named(avp, Known::SessionId),
+    match first_avp(bytes) {
+        Some(avp) => is_named(avp, Known::SessionId),
         None => false,
     }
 }
@@ -233,5 +236,51 @@ fn accept<'a>(bytes: &'a [u8], command: Command) -> Request<'a>
         target: target_of(bytes),
         host: payload_of(bytes, Known::OriginHost),
         realm: payload_of(bytes, Known::OriginRealm),
+    }
+}
+
+/// The data of the first AVP, where it is a right Session-Id.
+fn first_session<'a>(bytes: &'a [u8]) -> Option<&'a [u8]>
+    ensures { λ r. ⌜ BySome r (right-session (first (avps (now (bytes .entry)))) ≡ None) (λ s. right-session (first (avps (now (bytes .entry)))) ≡ Some (now s)) ⌝ }
+{
+    let avp = first_avp(bytes)?;
+    if is_named(avp, Known::SessionId) && avp.payload.len() >= 1 && avp.payload.len() <= 128 {
+        Some(avp.payload)
+    } else {
+        None
+    }
+}
+
+/// The Session-Id of a message: the data of its first AVP, where its AVPs are sound and that is a right Session-Id.
+pub fn session_id<'a>(message: &'a [u8]) -> Option<&'a [u8]>
+    ensures { λ r. ⌜ BySome r (session-id (now (message .entry)) ≡ None) (λ s. session-id (now (message .entry)) ≡ Some (now s)) ⌝ }
+{
+    let avps = body_of(message);
+    if !is_sound(avps, REQUEST_LEVELS) {
+        return None;
+    }
+    first_session(avps)
+}
+
+/// What a message of the application function `name` says at this time: a request, or the first refusal that applies with what its
+/// answer carries.
+pub fn read_request<'a>(
+    message: &'a [u8],
+    name: &[u8],
+    time: Time,
+) -> Result<Request<'a>, Rejection<'a>>
+    ensures { λ r. ⌜ reading-of r ≡ reading (now (message .entry)) (now (name .entry)) time ⌝ }
+{
+    let command = match check(message) {
+        Ok(command) => command,
+        Err(refusal) => return Err(Rejection {
+            refusal,
+            carried: Carried::Nothing,
+        }),
+    };
+    let avps = body_of(message);
+    match find_fault(avps, command, name, time) {
+        Some(rejection) => Err(rejection),
+        None => Ok(accept(avps, command)),
     }
 }
