@@ -3,6 +3,7 @@ ghost use mathlib.Core.Path.{_≡_};
 ghost use Rattle.diameter.specs.Lists.{avps};
 ghost use Rattle.diameter.specs.Views.{avp-of};
 ghost use Rattle.request.specs.Readings.{carrier, meaning, adds, union};
+ghost use Rattle.request.specs.Laws.{Union-of-all};
 use crate::finding::is_named;
 use diameter::avp::AvpView;
 use diameter::avp::split_avp;
@@ -65,3 +66,8 @@ pub(crate) fn union_of(bytes: &[u8], kind: Numbers) -> u16
     }
     bits
 }
+
+/// The set that a request names holds exactly the numbers that its AVPs carry.
+pub fn union_of_all()
+    ensures { λ _. ⌜ Union-of-all ⌝ }
+{}
