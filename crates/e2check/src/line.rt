@@ -3,7 +3,8 @@ ghost use mathlib.Core.Path.{_≡_};
 ghost use mathlib.Core.Bool.{_||_};
 ghost use lib.Dec.{eqb};
 ghost use Rattle.std.specs.Vec.{made};
-ghost use Rattle.e2check.specs.Lines.{content, judged};
+ghost use Rattle.request.specs.Askings.{reading-of};
+ghost use Rattle.e2check.specs.Lines.{content, judged, has-message, read-further};
 use e2::Command;
 use e2::CommandDebug;
 use e2::CommandPartialEq;
@@ -13,6 +14,8 @@ use hex::decode;
 use refusal::Refusal;
 use refusal::RefusalDebug;
 use refusal::RefusalPartialEq;
+use request::asking::Rejection;
+use request::asking::Request;
 use std::alloc::AllocError;
 
 /// What is said of a line.
@@ -26,6 +29,30 @@ pub enum Judged {
     Refused(Refusal),
     /// In this column, counted from 1, stands no hexadecimal digit, or the second digit of a byte is wanting.
     NotHex(usize),
+}
+
+impl Judged {
+    /// Whether the line holds a message.
+    pub fn has_message(self) -> bool
+        ensures { λ r. ⌜ r ≡ has-message self ⌝ }
+    {
+        match self {
+            Judged::Sound(_, _) => true,
+            Judged::Refused(_) => true,
+            Judged::Nothing => false,
+            Judged::NotHex(_) => false,
+        }
+    }
+
+    /// What is said of the message once it is read to its end.
+    pub fn read_further<'a>(self, reading: &Result<Request<'a>, Rejection<'a>>) -> Judged
+        ensures { λ r. ⌜ r ≡ read-further self (reading-of (now (reading .entry))) ⌝ }
+    {
+        match reading {
+            Ok(_) => self,
+            Err(rejection) => Judged::Refused(rejection.refusal),
+        }
+    }
 }
 
 /// Whether the line is read no further here.

@@ -1,7 +1,7 @@
 -- Laws of the sets: what each operation on bits says of the members, and the bounds that keep a set narrow.
-use Prim.Native.Nat.{ℕ, zero, suc, _+_, _*_, _-_, _/_, _%_, _^_, _<_, _≤_, min, max}
-use mathlib.Core.Path.{_≡_, refl, sym, ap, _∙_}
-use mathlib.Core.Bool.{Bool, true, false, cond, _&&_, _||_, not}
+use Prim.Native.Nat.{ℕ, zero, suc, _+_, _-_, _/_, _%_, _^_, _<_, _≤_, min, max}
+use mathlib.Core.Path.{_≡_, sym, ap, _∙_}
+use mathlib.Core.Bool.{true, _&&_, _||_, not}
 use mathlib.Core.Logic.{inl, inr}
 use lib.Bits.{bitAnd, bitOr, and-shr, or-shr, and-step, or-step, and-le-l}
 use lib.Count.{ones, ones-step, ones-le}
@@ -13,7 +13,7 @@ use native.Mathlib.Nat.{div-eq-of-lt, mod-eq-of-lt}
 use Rattle.std.proofs.shelf.Tests.{cases-lt}
 use Rattle.std.proofs.shelf.Bits.{shr-shr}
 use Rattle.std.proofs.shelf.Ways.{tells}
-use Rattle.fieldset.specs.Sets.{has, minus, inside, count}
+use Rattle.fieldset.specs.Sets.{has, minus, inside, how-many}
 
 pub impossible : {P : Type 0} → ⊥ → P
 impossible f = elim f [ ]
@@ -80,14 +80,14 @@ inside-all d a b h each =
     grind (arith, tells)
 
 -- the lowest number counted apart
-count-step : (d n : ℕ) → count (suc d) n ≡ n % 2 + count d (n / 2)
+count-step : (d n : ℕ) → how-many (suc d) n ≡ n % 2 + how-many d (n / 2)
 count-step zero n = grind (arith, tells)
 count-step (suc d) n =
     let e = count-step d n in
     let f = bit-step n d in
     grind (arith, tells)
 
-pub ones-count : (d n : ℕ) → n < 2 ^ d → ones n ≡ count d n
+pub ones-count : (d n : ℕ) → n < 2 ^ d → ones n ≡ how-many d n
 ones-count zero n h = omega (arith, ones-le 0 n h)
 ones-count (suc d) n h =
     omega (arith, ones-step n, ones-count d (n / 2) (omega arith), count-step d n)

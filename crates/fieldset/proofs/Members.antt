@@ -1,5 +1,5 @@
 -- The members of a set in ascending order, taken off from the lowest.
-use Prim.Native.Nat.{ℕ, zero, suc, _+_, _*_, _-_, _/_, _%_, _^_, _<_, _≤_, min}
+use Prim.Native.Nat.{ℕ, zero, suc, _+_, _*_, _-_, _/_, _%_, _<_, _≤_}
 use mathlib.Core.Path.{_≡_, refl, sym, ap, _∙_}
 use mathlib.Core.Bool.{Bool, true, false, cond}
 use mathlib.Core.List.{List, [], _∷_, _++_, map, append-assoc, append-nil, map-append}
@@ -7,10 +7,11 @@ use mathlib.Core.Logic.{inl, inr}
 use lib.Bits.{bitAnd, and-step, and-self}
 use lib.Count.{trailingZeros, under}
 use lib.Dec.{eqb}
+use lib.ListN.{length, length-append}
 use native.Mathlib.Omega.{arith}
 use Rattle.std.proofs.shelf.Tests.{cases-eq}
 use Rattle.std.proofs.shelf.Ways.{tells}
-use Rattle.fieldset.specs.Sets.{has, members}
+use Rattle.fieldset.specs.Sets.{has, how-many, members}
 use Rattle.fieldset.proofs.Laws.{bit-step, impossible}
 
 -- zero as a list, where it is a member
@@ -98,3 +99,13 @@ none-below (suc d) (suc w) n l h =
           let e : n % 2 ≡ 0 = omega arith in
           even-step d n e ∙ ap (map suc) (none-below d w (n / 2) (omega arith) (omega (arith, trailing-even w n e)))
     ]
+
+cond-length : (b : Bool) (d : ℕ) → length (cond b (d ∷ []) []) ≡ cond b 1 0
+cond-length true d = refl
+cond-length false d = refl
+
+pub members-count : (d n : ℕ) → length (members d n) ≡ how-many d n
+unfolding members
+members-count zero n = refl
+members-count (suc d) n =
+    length-append (members d n) (cond (has n d) (d ∷ []) []) ∙ (λ i. members-count d n i + cond-length (has n d) d i)

@@ -2,7 +2,7 @@
 --     has n k       k is a member of the set n
 --     minus a b     the members of a that are not members of b
 --     inside a b    each member of a is a member of b
---     count d n     how many of the numbers below d are members of n
+--     how-many d n  how many of the numbers below d are members of n
 --     members d n   those numbers, ascending
 use mathlib.Core.Bool.{Bool, cond}
 use mathlib.Core.List.{List, [], _∷_, _++_}
@@ -19,9 +19,9 @@ minus a b = a - bitAnd a b
 abbrev pub inside : ℕ → ℕ → Bool
 inside a b = eqb (bitAnd a b) a
 
-abbrev pub count : ℕ → ℕ → ℕ
-count zero n = 0
-count (suc d) n = count d n + cond (has n d) 1 0
+abbrev pub how-many : ℕ → ℕ → ℕ
+how-many zero n = 0
+how-many (suc d) n = how-many d n + cond (has n d) 1 0
 
 unfoldable pub members : ℕ → ℕ → List ℕ
 members zero n = []

@@ -5,8 +5,9 @@ ghost use Prim.Native.Nat.{ℕ, _%_, _^_, _<_, _≤_, min};
 ghost use lib.Bits.{bitAnd, bitOr};
 ghost use lib.Dec.{eqb};
 ghost use lib.Count.{ones};
+ghost use lib.ListN.{length};
 ghost use Rattle.std.specs.declared.option.Option.the-variants.{Some, None};
-ghost use Rattle.fieldset.specs.Sets.{has, minus, inside, count};
+ghost use Rattle.fieldset.specs.Sets.{has, minus, inside, «how-many», members};
 
 /// A set of numbers below `WIDTH`: `k` is a member where bit `k` is set. Numbers from 16 on are never members.
 #[derive(Clone, Copy, PartialEq, Eq, Debug)]
@@ -79,7 +80,8 @@ impl<const WIDTH: u32> BitSet<WIDTH> {
     /// How many members there are.
     pub fn len(self) -> u32
         ensures is { λ r. ⌜ r ≡ ones (self .entry .bits) ⌝ }
-        ensures each { λ r. ⌜ r ≡ count WIDTH (self .entry .bits) ⌝ }
+        ensures each { λ r. ⌜ r ≡ how-many WIDTH (self .entry .bits) ⌝ }
+        ensures members { λ r. ⌜ r ≡ length (members WIDTH (self .entry .bits)) ⌝ }
     {
         self.bits.count_ones()
     }

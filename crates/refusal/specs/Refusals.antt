@@ -5,7 +5,7 @@ use Prim.Native.Nat.{ℕ}
 use Rattle.std.specs.declared.option.Option.{Option}
 use Rattle.std.specs.declared.option.Option.the-variants.{Some, None}
 use Rattle.refusal.specs.declared.Refusal.{Refusal}
-use Rattle.refusal.specs.declared.Refusal.the-variants.{WrongSize, NotRequest, WrongVersion, WrongApplication, WrongCommand, Unsound, UnsupportedAvp, RepeatedAvp, MissingAvp, WrongAvp, WrongAf, AmbiguousUser, NoSession, NothingToShow, NoPlace}
+use Rattle.refusal.specs.declared.Refusal.the-variants.{WrongSize, NotRequest, WrongVersion, WrongApplication, WrongCommand, Unsound, UnsupportedAvp, RepeatedAvp, MissingAvp, WrongAvp, WrongAf, AmbiguousUser, NoSession, NothingToShow, NoPlace, WrongAfCount, WrongName, WrongRow, WrongOpening}
 use Rattle.refusal.specs.declared.ResultCode.{ResultCode}
 use Rattle.refusal.specs.declared.ResultCode.the-variants.{Base, Experimental}
 
@@ -25,6 +25,10 @@ number AmbiguousUser = 14
 number NoSession = 15
 number NothingToShow = 16
 number NoPlace = 17
+number WrongAfCount = 26
+number WrongName = 27
+number WrongRow = 28
+number WrongOpening = 29
 
 abbrev pub code : Refusal → Option ResultCode
 code WrongSize = None
@@ -42,3 +46,7 @@ code AmbiguousUser = Some (Base 5012)
 code NoSession = Some (Experimental 5001)
 code NothingToShow = Some (Experimental 4100)
 code NoPlace = Some (Base 5012)
+code WrongAfCount = None
+code WrongName = None
+code WrongRow = None
+code WrongOpening = None

@@ -36,6 +36,15 @@ pub enum Refusal {
     NothingToShow = 16,
     /// The application function has no place left for a subscription.
     NoPlace = 17,
+    /// The sheet has no application function, or more than 32.
+    WrongAfCount = 26,
+    /// A name of the sheet has not 1 to 64 bytes, or is equal to an earlier one.
+    WrongName = 27,
+    /// A row of the sheet has bits past the ten fields, or overrides what it does not allow.
+    WrongRow = 28,
+    /// A book or a repository is opened with something outside its range: the places for sessions, the own host or realm,
+    /// a rank, a need or an embargo.
+    WrongOpening = 29,
 }
 
 /// The result that an answer carries.
@@ -49,7 +58,7 @@ pub enum ResultCode {
 
 impl Refusal {
     /// Every refusal, in the order of the numbers.
-    pub const ALL: [Refusal; 15] = [
+    pub const ALL: [Refusal; 19] = [
         Refusal::WrongSize,
         Refusal::NotRequest,
         Refusal::WrongVersion,
@@ -65,6 +74,10 @@ impl Refusal {
         Refusal::NoSession,
         Refusal::NothingToShow,
         Refusal::NoPlace,
+        Refusal::WrongAfCount,
+        Refusal::WrongName,
+        Refusal::WrongRow,
+        Refusal::WrongOpening,
     ];
 
     /// The number by which the interface names the refusal.
@@ -93,31 +106,41 @@ impl Refusal {
             Refusal::NoSession => Some(ResultCode::Experimental(5001)),
             Refusal::NothingToShow => Some(ResultCode::Experimental(4100)),
             Refusal::NoPlace => Some(ResultCode::Base(5012)),
+            Refusal::WrongAfCount
+            | Refusal::WrongName
+            | Refusal::WrongRow
+            | Refusal::WrongOpening => None,
+        }
+    }
+
+    /// What the refusal says, in words for people.
+    fn words(self) -> &'static str {
+        match self {
+            Refusal::WrongSize => "message length wrong",
+            Refusal::NotRequest => "not a request",
+            Refusal::WrongVersion => "version not 1",
+            Refusal::WrongApplication => "application not e2",
+            Refusal::WrongCommand => "command neither UDR nor SNR",
+            Refusal::Unsound => "AVPs unsound",
+            Refusal::UnsupportedAvp => "AVP not supported",
+            Refusal::RepeatedAvp => "AVP repeated",
+            Refusal::MissingAvp => "AVP missing",
+            Refusal::WrongAvp => "AVP value wrong",
+            Refusal::WrongAf => "application function not the one that asks",
+            Refusal::AmbiguousUser => "user name fits several sessions",
+            Refusal::NoSession => "no session fits",
+            Refusal::NothingToShow => "nothing to show",
+            Refusal::NoPlace => "no place for a subscription",
+            Refusal::WrongAfCount => "number of application functions wrong",
+            Refusal::WrongName => "name of an application function wrong",
+            Refusal::WrongRow => "rights of an application function wrong",
+            Refusal::WrongOpening => "opening wrong",
         }
     }
 }
 
-/// What the refusal says, in words for people.
 pub impl fmt::Display for Refusal as RefusalDisplay {
     fn fmt<W: fmt::Write>(&self, f: &mut fmt::Formatter<W>) -> fmt::Result {
-        f.write_str(
-            match self {
-                Refusal::WrongSize => "message length wrong",
-                Refusal::NotRequest => "not a request",
-                Refusal::WrongVersion => "version not 1",
-                Refusal::WrongApplication => "application not e2",
-                Refusal::WrongCommand => "command neither UDR nor SNR",
-                Refusal::Unsound => "AVPs unsound",
-                Refusal::UnsupportedAvp => "AVP not supported",
-                Refusal::RepeatedAvp => "AVP repeated",
-                Refusal::MissingAvp => "AVP missing",
-                Refusal::WrongAvp => "AVP value wrong",
-                Refusal::WrongAf => "application function not the one that asks",
-                Refusal::AmbiguousUser => "user name fits several sessions",
-                Refusal::NoSession => "no session fits",
-                Refusal::NothingToShow => "nothing to show",
-                Refusal::NoPlace => "no place for a subscription",
-            },
-        )
+        f.write_str(self.words())
     }
 }

@@ -1,0 +1,4 @@
+pub mod Below
+pub mod Entered
+pub mod Reached
+pub mod Rights

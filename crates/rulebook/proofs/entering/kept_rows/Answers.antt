@@ -1,0 +1,21 @@
+use Prim.Native.Nat.{ℕ}
+use mathlib.Core.Path.{sym, _∙_}
+use mathlib.Core.List.{[], _∷_, _++_}
+use native.Mathlib.Omega.{arith}
+use lib.ListN.{take}
+use Rattle.std.proofs.shelf.Lists.{length-set, take-more-set, map-more}
+use Rattle.rulebook.specs.Sheets.{entered-row}
+use Rattle.rulebook.proofs.Entered.{no-af, copied-all}
+use Rattle.rulebook.proofs.entering.kept_rows.Needs as need
+
+pub loop-k-again : need.loop-k-again
+loop-k-again c = (
+  take-more-set (c .loop-k .rows) (c .loop-k .k) (c .row .result) (omega arith)
+      ∙ (λ i. c .loop-k .inv .0 i ++ c .row .ensures i ∷ [])
+      ∙ sym (map-more entered-row (c .args .afs .now) (c .loop-k .k) no-af (omega arith)),
+  length-set (c .loop-k .rows) (c .loop-k .k) (c .row .result) ∙ c .loop-k .inv .1,
+)
+
+pub returns : need.returns
+returns c =
+    copied-all entered-row (λ (k : ℕ). take k (c .loop-k .rows)) (c .args .afs .now) (c .loop-k .k) (omega arith) (omega arith) (c .loop-k .inv .0)

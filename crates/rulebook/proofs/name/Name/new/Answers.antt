@@ -1,0 +1,8 @@
+use mathlib.Core.Path.{ap, _∙_}
+use lib.ListN.{length}
+use Rattle.std.proofs.shelf.Lists.{take-at}
+use Rattle.rulebook.proofs.name.Name.new.Needs as need
+
+pub returns : need.returns
+returns c =
+    take-at _ _ (length (c .args .text .now)) (ap length (c .copy-from-slice .ensures .after)) ∙ c .copy-from-slice .ensures .after

@@ -1,0 +1,5 @@
+pub mod Rows
+pub mod Sheets
+pub mod Listed
+pub mod Books
+pub mod Views
