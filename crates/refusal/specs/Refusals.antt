@@ -5,11 +5,13 @@ use Prim.Native.Nat.{ℕ}
 use Rattle.std.specs.declared.option.Option.{Option}
 use Rattle.std.specs.declared.option.Option.the-variants.{Some, None}
 use Rattle.refusal.specs.declared.Refusal.{Refusal}
-use Rattle.refusal.specs.declared.Refusal.the-variants.{WrongSize, NotRequest, WrongVersion, WrongApplication, WrongCommand, Unsound, UnsupportedAvp, RepeatedAvp, MissingAvp, WrongAvp, WrongAf, AmbiguousUser, NoSession, NothingToShow, NoPlace, WrongAfCount, WrongName, WrongRow, WrongOpening}
+use Rattle.refusal.specs.declared.Refusal.the-variants.{UnknownAf, ShortBuffer, WrongSize, NotRequest, WrongVersion, WrongApplication, WrongCommand, Unsound, UnsupportedAvp, RepeatedAvp, MissingAvp, WrongAvp, WrongAf, AmbiguousUser, NoSession, NothingToShow, NoPlace, WrongArgument, AddressTaken, NoRoom, NoSuchAddress, UnsoundValue, NoticeOut, NothingWaiting, WrongSlip, WrongAfCount, WrongName, WrongRow, WrongOpening}
 use Rattle.refusal.specs.declared.ResultCode.{ResultCode}
 use Rattle.refusal.specs.declared.ResultCode.the-variants.{Base, Experimental}
 
 abbrev pub number : Refusal → ℕ
+number UnknownAf = 1
+number ShortBuffer = 2
 number WrongSize = 3
 number NotRequest = 4
 number WrongVersion = 5
@@ -25,12 +27,22 @@ number AmbiguousUser = 14
 number NoSession = 15
 number NothingToShow = 16
 number NoPlace = 17
+number WrongArgument = 18
+number AddressTaken = 19
+number NoRoom = 20
+number NoSuchAddress = 21
+number UnsoundValue = 22
+number NoticeOut = 23
+number NothingWaiting = 24
+number WrongSlip = 25
 number WrongAfCount = 26
 number WrongName = 27
 number WrongRow = 28
 number WrongOpening = 29
 
 abbrev pub code : Refusal → Option ResultCode
+code UnknownAf = None
+code ShortBuffer = None
 code WrongSize = None
 code NotRequest = None
 code WrongVersion = Some (Base 5011)
@@ -46,6 +58,14 @@ code AmbiguousUser = Some (Base 5012)
 code NoSession = Some (Experimental 5001)
 code NothingToShow = Some (Experimental 4100)
 code NoPlace = Some (Base 5012)
+code WrongArgument = None
+code AddressTaken = None
+code NoRoom = None
+code NoSuchAddress = None
+code UnsoundValue = None
+code NoticeOut = None
+code NothingWaiting = None
+code WrongSlip = None
 code WrongAfCount = None
 code WrongName = None
 code WrongRow = None

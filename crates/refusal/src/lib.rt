@@ -6,6 +6,10 @@ use std::fmt;
 /// Why a call is turned down. The numbers are those of the interface; within a call the reasons are tried in their order.
 #[derive(Clone, Copy, PartialEq, Eq, Debug)]
 pub enum Refusal {
+    /// No application function has this number.
+    UnknownAf = 1,
+    /// The buffer has less than 2,048 bytes.
+    ShortBuffer = 2,
     /// The message has a length that no request has, or another than its header says.
     WrongSize = 3,
     /// The message is not a request.
@@ -36,6 +40,22 @@ pub enum Refusal {
     NothingToShow = 16,
     /// The application function has no place left for a subscription.
     NoPlace = 17,
+    /// A length, a set or a field is outside its range.
+    WrongArgument = 18,
+    /// The address has a session.
+    AddressTaken = 19,
+    /// There is no place left for a session.
+    NoRoom = 20,
+    /// The address has no session.
+    NoSuchAddress = 21,
+    /// The value of a field that is a group is not a sound sequence.
+    UnsoundValue = 22,
+    /// A notice to the application function is out.
+    NoticeOut = 23,
+    /// No notice waits for the application function.
+    NothingWaiting = 24,
+    /// The slip is not that of the notice that is out.
+    WrongSlip = 25,
     /// The sheet has no application function, or more than 32.
     WrongAfCount = 26,
     /// A name of the sheet has not 1 to 64 bytes, or is equal to an earlier one.
@@ -58,7 +78,9 @@ pub enum ResultCode {
 
 impl Refusal {
     /// Every refusal, in the order of the numbers.
-    pub const ALL: [Refusal; 19] = [
+    pub const ALL: [Refusal; 29] = [
+        Refusal::UnknownAf,
+        Refusal::ShortBuffer,
         Refusal::WrongSize,
         Refusal::NotRequest,
         Refusal::WrongVersion,
@@ -74,6 +96,14 @@ impl Refusal {
         Refusal::NoSession,
         Refusal::NothingToShow,
         Refusal::NoPlace,
+        Refusal::WrongArgument,
+        Refusal::AddressTaken,
+        Refusal::NoRoom,
+        Refusal::NoSuchAddress,
+        Refusal::UnsoundValue,
+        Refusal::NoticeOut,
+        Refusal::NothingWaiting,
+        Refusal::WrongSlip,
         Refusal::WrongAfCount,
         Refusal::WrongName,
         Refusal::WrongRow,
@@ -92,7 +122,8 @@ impl Refusal {
         ensures { λ r. ⌜ r ≡ code self ⌝ }
     {
         match self {
-            Refusal::WrongSize | Refusal::NotRequest => None,
+            Refusal::UnknownAf | Refusal::ShortBuffer | Refusal::WrongSize | Refusal::NotRequest =>
+                None,
             Refusal::WrongVersion => Some(ResultCode::Base(5011)),
             Refusal::WrongApplication => Some(ResultCode::Base(3007)),
             Refusal::WrongCommand => Some(ResultCode::Base(3001)),
@@ -106,7 +137,15 @@ impl Refusal {
             Refusal::NoSession => Some(ResultCode::Experimental(5001)),
             Refusal::NothingToShow => Some(ResultCode::Experimental(4100)),
             Refusal::NoPlace => Some(ResultCode::Base(5012)),
-            Refusal::WrongAfCount
+            Refusal::WrongArgument
+            | Refusal::AddressTaken
+            | Refusal::NoRoom
+            | Refusal::NoSuchAddress
+            | Refusal::UnsoundValue
+            | Refusal::NoticeOut
+            | Refusal::NothingWaiting
+            | Refusal::WrongSlip
+            | Refusal::WrongAfCount
             | Refusal::WrongName
             | Refusal::WrongRow
             | Refusal::WrongOpening => None,
@@ -116,6 +155,8 @@ impl Refusal {
     /// What the refusal says, in words for people.
     fn words(self) -> &'static str {
         match self {
+            Refusal::UnknownAf => "application function not on the sheet",
+            Refusal::ShortBuffer => "buffer too short",
             Refusal::WrongSize => "message length wrong",
             Refusal::NotRequest => "not a request",
             Refusal::WrongVersion => "version not 1",
@@ -131,6 +172,14 @@ impl Refusal {
             Refusal::NoSession => "no session fits",
             Refusal::NothingToShow => "nothing to show",
             Refusal::NoPlace => "no place for a subscription",
+            Refusal::WrongArgument => "argument out of range",
+            Refusal::AddressTaken => "address has a session",
+            Refusal::NoRoom => "no place for a session",
+            Refusal::NoSuchAddress => "address has no session",
+            Refusal::UnsoundValue => "value unsound",
+            Refusal::NoticeOut => "notice out already",
+            Refusal::NothingWaiting => "nothing waiting",
+            Refusal::WrongSlip => "slip not of the notice out",
             Refusal::WrongAfCount => "number of application functions wrong",
             Refusal::WrongName => "name of an application function wrong",
             Refusal::WrongRow => "rights of an application function wrong",
