@@ -1,0 +1,5 @@
+pub mod Limits
+pub mod Fields
+pub mod Messages
+pub mod Parts
+pub mod Laws

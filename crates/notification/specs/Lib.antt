@@ -1,0 +1,5 @@
+pub mod Limits
+pub mod Notifications
+pub mod Notices
+pub mod Parts
+pub mod Laws
