@@ -105,3 +105,12 @@ is-kind c v EventType = grind (arith, tells)
 is-kind c v AfApplicationIdentifier = grind (arith, tells)
 is-kind c v SubsReqType = grind (arith, tells)
 is-kind c v ExpiryTime = grind (arith, tells)
+
+-- of two tests
+pub or-assoc : (a b c : Bool) → ((a || b) || c) ≡ (a || (b || c))
+or-assoc true b c = refl
+or-assoc false b c = refl
+
+pub or-false : (b : Bool) → b ≡ (b || false)
+or-false true = refl
+or-false false = refl

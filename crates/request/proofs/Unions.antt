@@ -15,7 +15,7 @@ use Rattle.request.specs.Faults.{is}
 use Rattle.request.specs.Readings.{union, adds, bit-of, meaning, carrier}
 use Rattle.request.specs.Laws.{carries, carried-by-some, means}
 use Rattle.request.specs.declared.number.Numbers.{Numbers}
-use Rattle.request.proofs.Named.{has-power, has-nothing}
+use Rattle.request.proofs.Named.{has-power, has-nothing, or-assoc, or-false}
 
 pub union-more : (kind : Numbers) (bits : ℕ) (a : Avp) (later : List Avp) → union kind bits (a ∷ later) ≡ union kind (bitOr bits (adds kind a)) later
 unfolding union
@@ -33,14 +33,6 @@ bit-member (Some n) k = has-power n k
 added : (b : Bool) (o : Option ℕ) (k : ℕ) → has (cond b (bit-of o) 0) k ≡ (b && means o k)
 added true o k = bit-member o k
 added false o k = has-nothing k
-
-or-assoc : (a b c : Bool) → ((a || b) || c) ≡ (a || (b || c))
-or-assoc true b c = refl
-or-assoc false b c = refl
-
-or-false : (b : Bool) → b ≡ (b || false)
-or-false true = refl
-or-false false = refl
 
 members-from : (kind : Numbers) (bits : ℕ) (l : List Avp) (k : ℕ) → has (union kind bits l) k ≡ (has bits k || carried-by-some kind k l)
 members-from kind bits [] k = ap (λ (n : ℕ). has n k) (union-all kind bits) ∙ or-false (has bits k)

@@ -17,7 +17,7 @@ use Rattle.dictionary.specs.declared.known.Known.{Known}
 use Rattle.request.specs.Faults.{kind, is, there, parts, with-parts, unsupported, stranger, also, again, repeated, wrong, is-wrong, misfit}
 use Rattle.request.specs.Scans.{Found, Scans, or-else, stranger-by, repeat-by, misfit-by, seen-by, noted, scanned, nothing-found, found-of}
 use Rattle.request.specs.declared.scan.Scan.{Scan}
-use Rattle.request.proofs.Named.{seen-also, has-nothing, same-kind, is-kind}
+use Rattle.request.proofs.Named.{seen-also, has-nothing, same-kind, is-kind, or-assoc, or-false}
 
 or-else-assoc : (x y z : Option Avp) → or-else (or-else x y) z ≡ or-else x (or-else y z)
 or-else-assoc None y z = refl
@@ -57,15 +57,7 @@ there-more false k o a = refl
 
 also-is : (o : Option Known) (seen : Known → Bool) (k : Known) → also o seen k ≡ (seen k || same-kind o k)
 also-is None seen k = or-false (seen k)
-  where
-    or-false : (b : Bool) → b ≡ (b || false)
-    or-false true = refl
-    or-false false = refl
 also-is (Some j) seen k = refl
-
-or-assoc : (a b c : Bool) → ((a || b) || c) ≡ (a || (b || c))
-or-assoc true b c = refl
-or-assoc false b c = refl
 
 module _ (after : Option ℕ) where
   scanned-stranger : (f : Found) (l : List Avp) → scanned after f l .stranger ≡ or-else (f .stranger) (stranger l)
@@ -97,10 +89,6 @@ module _ (after : Option ℕ) where
   scanned-seen : (k : Known) (f : Found) (l : List Avp) → has (scanned after f l .seen) (index k) ≡ (has (f .seen) (index k) || there k l)
   unfolding scanned
   scanned-seen k f [] = or-false (has (f .seen) (index k))
-    where
-      or-false : (b : Bool) → b ≡ (b || false)
-      or-false true = refl
-      or-false false = refl
   scanned-seen k f (a ∷ later) =
       scanned-seen k (noted after a f) later
       ∙ ap (λ (b : Bool). b || there k later) (seen-also (kind a) (f .seen) k ∙ also-is (kind a) (within (f .seen)) k)
