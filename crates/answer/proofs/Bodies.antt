@@ -1,49 +1,37 @@
 -- An answer as its AVPs put end to end: sound, and read back.
-use mathlib.Core.Path.{_≡_, refl, sym, ap, subst, _∙_}
-use mathlib.Core.Bool.{Bool, true, false, cond, _||_}
-use mathlib.Core.Logic.{⊎-elim}
-use mathlib.Core.List.{List, [], _∷_, _++_, map, append-assoc, append-nil}
-use Prim.Native.Nat.{ℕ, zero, suc, _+_, _-_, _^_, _≤_, _<_}
+use mathlib.Core.Path.{_≡_, refl, sym, ap, _∙_}
+use mathlib.Core.Bool.{Bool, true, false, cond}
+use mathlib.Core.List.{List, [], _∷_, _++_, append-nil}
+use Prim.Native.Nat.{ℕ, _≤_, _<_}
 use native.Mathlib.Omega.{arith}
 use lib.Dec.{eqb}
-use lib.ListN.{length, length-append, length-replicate}
-use borrow.Author.Needs.{needs}
-use Rattle.std.specs.Joined.{joined}
+use lib.ListN.{length, length-replicate}
 use Rattle.std.specs.shelf.Lists.{All}
 use Rattle.std.proofs.shelf.Elements.{all-append, all-map, all-weaker}
-use Rattle.std.proofs.shelf.Tests.{cases-bool}
-use Rattle.std.proofs.shelf.Ways.{tells}
 use Rattle.refusal.specs.declared.ResultCode.{ResultCode}
 use Rattle.refusal.specs.declared.ResultCode.the-variants.{Base, Experimental}
-use Rattle.diameter.specs.Bytes.{flagged}
-use Rattle.diameter.specs.Avps.{group}
 use Rattle.diameter.specs.Headers.{body}
 use Rattle.diameter.specs.Lists.{avps}
-use Rattle.diameter.specs.Soundness.{sound, walk}
-use Rattle.diameter.specs.Laws.{Sound, none}
-use Rattle.diameter.proofs.Decided.{decided}
-use Rattle.fieldset.specs.Sets.{has, members}
+use Rattle.fieldset.specs.Sets.{members}
 use Rattle.dictionary.specs.Names.{code, vendor, flags, shortest}
 use Rattle.dictionary.specs.declared.known.Known.{Known}
 use Rattle.dictionary.specs.declared.known.Known.the-variants.{UserName, FramedIpAddress, VendorSpecificApplicationId, SessionId, OriginHost, AuthSessionState, RouteRecord, DestinationRealm, ProxyInfo, DestinationHost, OriginRealm, GloballyUniqueAddress, AddressRealm, RequestedInformation, EventType, AfApplicationIdentifier, SubsReqType, ExpiryTime}
 use Rattle.request.specs.Askings.{Fault, nothing, copied, lacks}
 use Rattle.writer.specs.Bytes.{bytes32, zeros}
-use Rattle.writer.specs.Avps.{head-size, avp}
-use Rattle.writer.specs.Parts.{Part, part-bytes, parts-bytes, part-vendor, part-avp, Encodable, Sound-part, plain, nested}
+use Rattle.writer.specs.Avps.{avp}
+use Rattle.writer.specs.Parts.{Part, part-bytes, parts-bytes, Encodable}
 use Rattle.writer.proofs.Avps.{length-avp}
-use Rattle.writer.proofs.Written.{parts-sound, part-sound, parts-read-back}
+use Rattle.writer.proofs.Written.{parts-read-back}
 use Rattle.message.specs.Limits.{session-limit, name-limit, field-limit}
-use Rattle.message.specs.Fields.{field-code, field-vendor, field-flags, field-part, field-parts}
-use Rattle.answer.specs.Faults.{copy, blank, failed-avp, kept-of, held-of}
-use Rattle.answer.specs.Answers.{Answer, session-avp, result-avp, answer-front, answer-body, answer-bytes}
-use Rattle.message.specs.Messages.{application-avp, sender-avps}
-use Rattle.answer.specs.Copies.{Tellable, Fits-tell}
+use Rattle.message.specs.Fields.{field-part, field-parts}
+use Rattle.answer.specs.Faults.{copy, blank, failed-avp}
+use Rattle.answer.specs.Answers.{Answer, result-avp, answer-front, answer-body, answer-bytes}
+use Rattle.message.specs.Messages.{application-avp}
+use Rattle.answer.specs.Copies.{Fits-tell}
 use Rattle.message.specs.Parts.{one, application-part, sender-parts}
 use Rattle.answer.specs.Parts.{session-parts, result-part, fault-parts, front-parts, answer-parts}
-use Rattle.answer.specs.Laws.{Bounded, Values-sound, Answers-sound, Answers-read-back}
-use Rattle.message.specs.Laws.{is-group-field}
+use Rattle.answer.specs.Laws.{Bounded, Answers-read-back}
 use Rattle.message.proofs.Parts.{parts-append, sender-bytes, head-le, one-fits, field-fits, members-below, unless-all}
-use Rattle.answer.proofs.Copies.{copy-sound}
 use Rattle.answer.proofs.Faults.{length-copy}
 
 -- one part, unless there is none

@@ -1,14 +1,14 @@
 -- AVPs of a request, copied.
-use mathlib.Core.Path.{_≡_, refl, sym, ap, subst, _∙_}
-use mathlib.Core.Bool.{Bool, true, false, cond, _&&_}
+use mathlib.Core.Path.{_≡_, sym, ap, subst, _∙_}
+use mathlib.Core.Bool.{true, cond, _&&_}
 use mathlib.Core.Logic.{⊎-elim}
 use mathlib.Core.List.{List, [], _∷_, _++_, append-nil}
-use Prim.Native.Nat.{ℕ, zero, suc, _+_, _-_, _*_, _≤_, _<_}
+use Prim.Native.Nat.{ℕ, suc, _+_, _-_, _*_, _≤_, _<_}
 use native.Mathlib.Omega.{arith}
-use lib.ListN.{length, getD, take, drop, length-append, length-take, length-drop, length-replicate, take-append-drop}
+use lib.ListN.{length, getD, take, drop, length-append, length-take, length-drop, length-replicate}
 use lib.Seq.{take-take}
 use Rattle.std.specs.shelf.Lists.{All}
-use Rattle.std.proofs.shelf.Lists.{getD-append-left, getD-take, take-append-le, drop-append-le, drop-at, take-at, length-take-le, drop-all, drop-take, take-all}
+use Rattle.std.proofs.shelf.Lists.{getD-append-left, getD-take, take-append-le, drop-append-le, take-at, length-take-le, drop-all, drop-take, take-all}
 use Rattle.std.proofs.shelf.Elements.{all-weaker}
 use Rattle.std.proofs.shelf.Tests.{cases-bool, and-parts, true≢false}
 use Rattle.std.proofs.shelf.Ways.{tells}

@@ -1,7 +1,7 @@
 -- How long an answer is.
-use mathlib.Core.Path.{_≡_, refl, sym, ap, _∙_}
+use mathlib.Core.Path.{_≡_, refl, ap, _∙_}
 use mathlib.Core.Bool.{Bool, true, false, cond}
-use mathlib.Core.List.{List, [], _∷_, _++_}
+use mathlib.Core.List.{List, [], _++_}
 use Prim.Native.Nat.{ℕ, suc, _+_, _≤_}
 use native.Mathlib.Omega.{arith}
 use lib.Dec.{eqb}
@@ -11,7 +11,7 @@ use Rattle.refusal.specs.declared.ResultCode.the-variants.{Base, Experimental}
 use Rattle.fieldset.specs.Sets.{members}
 use Rattle.dictionary.specs.Names.{code, vendor, flags, shortest}
 use Rattle.request.specs.Askings.{Fault, nothing, copied, lacks}
-use Rattle.writer.specs.Bytes.{bytes32, zeros}
+use Rattle.writer.specs.Bytes.{zeros}
 use Rattle.writer.specs.Avps.{avp}
 use Rattle.writer.specs.Parts.{parts-bytes}
 use Rattle.writer.proofs.Avps.{length-avp, avp-size-whole}
@@ -19,7 +19,7 @@ use Rattle.writer.proofs.Written.{length-parts}
 use Rattle.message.specs.Fields.{field-parts}
 use Rattle.answer.specs.Faults.{copy, blank, failed-avp, failed-size, kept-of, held-of}
 use Rattle.answer.specs.Answers.{Answer, session-avp, session-size, result-avp, result-size, answer-front, front-size, answer-body, body-size, answer-bytes}
-use Rattle.message.specs.Messages.{application-avp, sender-avps, sender-size}
+use Rattle.message.specs.Messages.{application-avp, sender-avps}
 use Rattle.message.proofs.Parts.{length-sender}
 use Rattle.answer.proofs.Faults.{length-copy}
 

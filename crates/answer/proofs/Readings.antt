@@ -4,17 +4,14 @@ use mathlib.Core.Bool.{Bool, true, false, cond}
 use mathlib.Core.List.{List, [], _∷_, _++_, map, map-append, append-nil}
 use Prim.Native.Nat.{ℕ, zero, suc, _+_, _^_, _≤_, _<_}
 use native.Mathlib.Omega.{arith}
-use lib.Count.{ones}
 use lib.Dec.{eqb}
 use lib.ListN.{length, length-append, length-map}
 use Rattle.std.specs.shelf.Lists.{All, kept-by}
-use Rattle.std.specs.declared.option.Option.{Option}
-use Rattle.std.specs.declared.option.Option.the-variants.{Some}
 use Rattle.std.proofs.shelf.Elements.{kept-by-append}
 use Rattle.std.proofs.shelf.Ways.{tells}
 use Rattle.refusal.specs.declared.ResultCode.{ResultCode}
 use Rattle.refusal.specs.declared.ResultCode.the-variants.{Base, Experimental}
-use Rattle.diameter.specs.Headers.{header-of, body}
+use Rattle.diameter.specs.Headers.{body}
 use Rattle.diameter.specs.Lists.{Avp, avps, named, count-such, first-such}
 use Rattle.fieldset.specs.Sets.{members}
 use Rattle.fieldset.proofs.Laws.{ones-count}
@@ -24,15 +21,15 @@ use Rattle.request.specs.Askings.{Fault, nothing, copied, lacks}
 use Rattle.writer.specs.Avps.{avp-size}
 use Rattle.writer.specs.Parts.{Part, part-avp, parts-size}
 use Rattle.writer.proofs.Written.{header-read-back}
-use Rattle.message.specs.Limits.{session-limit, name-limit, field-limit}
-use Rattle.answer.specs.Limits.{front-most, failed-most}
+use Rattle.message.specs.Limits.{session-limit, field-limit}
+use Rattle.answer.specs.Limits.{failed-most}
 use Rattle.message.specs.Fields.{field-part, field-parts, limits-size, is-field}
 use Rattle.answer.specs.Faults.{failed-size}
-use Rattle.answer.specs.Answers.{Answer, answer-flags, session-size, result-size, front-size, answer-body, body-size, answer-bytes}
+use Rattle.answer.specs.Answers.{answer-flags, session-size, result-size, answer-body, answer-bytes}
 use Rattle.answer.specs.Copies.{Fits-tell}
 use Rattle.message.specs.Parts.{one, application-part, sender-parts}
-use Rattle.answer.specs.Parts.{session-parts, result-part, fault-parts, front-parts, answer-parts}
-use Rattle.answer.specs.Laws.{Bounded, Answers-fit, Header-repeats, Session-repeats, Fields-shown, Fields-counted}
+use Rattle.answer.specs.Parts.{result-part, fault-parts, front-parts}
+use Rattle.answer.specs.Laws.{Answers-fit, Header-repeats, Session-repeats, Fields-shown, Fields-counted}
 use Rattle.message.proofs.Fields.{size-within, limits-most}
 use Rattle.answer.proofs.Lengths.{length-whole, length-answer}
 use Rattle.answer.proofs.Bodies.{answers-read-back, shortest-le}

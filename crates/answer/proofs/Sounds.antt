@@ -1,8 +1,7 @@
 -- Answers are sound: each AVP is no group, or a group with sound data.
-use mathlib.Core.Path.{_≡_, refl, sym, ap, subst, _∙_}
-use mathlib.Core.Bool.{Bool, true, false, cond, _||_}
+use mathlib.Core.Path.{refl, ap, _∙_}
 use mathlib.Core.List.{List, [], _∷_, _++_}
-use Prim.Native.Nat.{ℕ, zero, suc, _+_, _^_, _≤_, _<_}
+use Prim.Native.Nat.{ℕ, _^_, _<_}
 use native.Mathlib.Omega.{arith}
 use lib.Dec.{eqb}
 use lib.ListN.{length, length-replicate}
@@ -10,9 +9,8 @@ use Rattle.std.specs.shelf.Lists.{All}
 use Rattle.std.proofs.shelf.Elements.{all-append, all-map, all-weaker}
 use Rattle.refusal.specs.declared.ResultCode.{ResultCode}
 use Rattle.refusal.specs.declared.ResultCode.the-variants.{Base, Experimental}
-use Rattle.diameter.specs.Headers.{body}
-use Rattle.diameter.specs.Soundness.{sound, walk}
-use Rattle.diameter.specs.Laws.{Sound, none}
+use Rattle.diameter.specs.Soundness.{sound}
+use Rattle.diameter.specs.Laws.{none}
 use Rattle.diameter.proofs.Decided.{decided}
 use Rattle.fieldset.specs.Sets.{members}
 use Rattle.dictionary.specs.Names.{code, vendor, flags, shortest}
@@ -23,13 +21,12 @@ use Rattle.writer.specs.Bytes.{bytes32, zeros}
 use Rattle.writer.specs.Parts.{Part, parts-bytes, Encodable, Sound-part, plain, nested}
 use Rattle.writer.proofs.Written.{parts-sound, part-sound}
 use Rattle.message.specs.Fields.{field-part, field-parts}
-use Rattle.answer.specs.Faults.{copy, blank}
-use Rattle.answer.specs.Answers.{Answer, answer-bytes}
+use Rattle.answer.specs.Faults.{copy}
+use Rattle.answer.specs.Answers.{Answer}
 use Rattle.answer.specs.Copies.{Tellable}
 use Rattle.message.specs.Parts.{one, application-part, sender-parts}
 use Rattle.answer.specs.Parts.{session-parts, result-part, fault-parts, front-parts, answer-parts}
-use Rattle.answer.specs.Laws.{Bounded, Values-sound, Answers-sound}
-use Rattle.message.specs.Laws.{is-group-field}
+use Rattle.answer.specs.Laws.{Values-sound, Answers-sound}
 use Rattle.answer.proofs.Copies.{copy-sound}
 use Rattle.answer.proofs.Bodies.{body-bytes, body-of-answer, parts-fit, shortest-le}
 use Rattle.message.proofs.Parts.{members-below, one-fits, unless-all, head-le, all-both, application-sound, field-sound}

@@ -5,7 +5,7 @@
 --     Fits-tell f  the same as far as lengths go
 use mathlib.Core.Path.{_≡_}
 use mathlib.Core.Bool.{true}
-use Prim.Native.Nat.{ℕ, _≤_}
+use Prim.Native.Nat.{_≤_}
 use lib.ListN.{length}
 use Rattle.diameter.specs.Avps.{stands}
 use Rattle.diameter.specs.Lists.{Avp, front}

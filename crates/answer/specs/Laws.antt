@@ -3,14 +3,12 @@
 --     Values-sound vs     the values of the fields that are groups, 1, 3, 7 and 8, are sound where a value stands
 --     fields-of m         the AVPs of the message m that show fields, in the order in which they stand
 use mathlib.Core.Path.{_≡_}
-use mathlib.Core.Bool.{Bool, true, _||_}
+use mathlib.Core.Bool.{true}
 use mathlib.Core.List.{List, [], _∷_, map}
-use Prim.Native.Nat.{ℕ, _+_, _^_, _≤_, _<_}
+use Prim.Native.Nat.{ℕ, _^_, _≤_, _<_}
 use lib.Count.{ones}
-use lib.Dec.{eqb}
 use lib.ListN.{length}
 use Rattle.std.specs.shelf.Lists.{All, kept-by}
-use Rattle.std.specs.declared.option.Option.{Option}
 use Rattle.std.specs.declared.option.Option.the-variants.{Some}
 use Rattle.refusal.specs.declared.ResultCode.the-variants.{Base, Experimental}
 use Rattle.diameter.specs.Avps.{group}
@@ -23,8 +21,7 @@ use Rattle.writer.specs.Parts.{part-avp}
 use Rattle.message.specs.Limits.{session-limit, name-limit, field-limit, buffer-least}
 use Rattle.answer.specs.Limits.{request-limit}
 use Rattle.message.specs.Fields.{field-part, is-field}
-use Rattle.answer.specs.Answers.{Answer, answer-flags, result-avp, answer-body, answer-bytes}
-use Rattle.message.specs.Messages.{application-avp}
+use Rattle.answer.specs.Answers.{Answer, answer-flags, result-avp, answer-bytes}
 use Rattle.message.specs.Laws.{is-group-field}
 use Rattle.answer.specs.Copies.{Copyable, Tellable, Fits-tell}
 use Rattle.message.specs.Parts.{one}

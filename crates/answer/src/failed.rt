@@ -2,7 +2,7 @@
 ghost use mathlib.Core.Path.{_≡_};
 ghost use Prim.Native.Nat.{_+_, _≤_};
 ghost use lib.ListN.{length};
-ghost use Rattle.dictionary.specs.Names.{flags, shortest};
+ghost use Rattle.dictionary.specs.Names.{flags};
 ghost use Rattle.diameter.specs.Views.{avp-of};
 ghost use Rattle.request.specs.Askings.{fault-of, copied, lacks};
 ghost use Rattle.writer.specs.Avps.{avp-size, avp};

@@ -5,7 +5,7 @@
 --     field-parts values ks    the AVPs of the fields ks, each with its value
 --     limits-size ks           how long these are with values as long as they may be, and fields-most the same of all ten
 --     is-field a               the AVP a has the name of a field
-use mathlib.Core.Bool.{Bool, cond, _&&_, _||_}
+use mathlib.Core.Bool.{Bool, cond, _||_}
 use mathlib.Core.List.{List, [], _∷_, map}
 use Prim.Native.Nat.{ℕ, _+_}
 use lib.Dec.{eqb}

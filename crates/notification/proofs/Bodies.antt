@@ -2,37 +2,31 @@
 use mathlib.Core.Path.{_≡_, refl, sym, ap, _∙_}
 use mathlib.Core.Bool.{Bool, true, false, cond, _&&_}
 use mathlib.Core.List.{List, [], _∷_, _++_, map, append-assoc, append-nil}
-use Prim.Native.Nat.{ℕ, zero, suc, _+_, _^_, _≤_, _<_}
+use Prim.Native.Nat.{ℕ, _+_, _≤_}
 use native.Mathlib.Omega.{arith}
-use lib.Dec.{leb, eqb}
 use lib.ListN.{length}
-use Rattle.std.specs.Written.{decimal}
 use Rattle.std.specs.shelf.Lists.{All}
-use Rattle.std.specs.declared.option.Option.{Option}
 use Rattle.std.specs.declared.option.Option.the-variants.{Some, None}
-use Rattle.std.proofs.shelf.Tests.{cases-bool}
 use Rattle.std.proofs.shelf.Ways.{tells}
 use Rattle.diameter.specs.Headers.{body}
 use Rattle.diameter.specs.Lists.{Avp, avps, named, only-such}
 use Rattle.diameter.specs.Soundness.{sound}
 use Rattle.diameter.specs.Laws.{Sound}
 use Rattle.diameter.proofs.Decided.{decided}
-use Rattle.dictionary.specs.Addresses.{Address, sized, paired, address-in}
-use Rattle.dictionary.specs.Numbers.{event-of}
+use Rattle.dictionary.specs.Addresses.{Address, sized, paired}
 use Rattle.writer.specs.Bytes.{bytes32}
-use Rattle.writer.specs.Avps.{avp-size, avp}
+use Rattle.writer.specs.Avps.{avp}
 use Rattle.writer.specs.Parts.{Part, part-bytes, parts-bytes, part-avp, Encodable, Sound-part, plain, nested}
 use Rattle.writer.proofs.Digits.{length-decimal}
 use Rattle.writer.proofs.Written.{parts-sound, parts-read-back, header-read-back}
-use Rattle.message.specs.Limits.{name-limit, value-limit, field-limit}
+use Rattle.message.specs.Limits.{value-limit, field-limit}
 use Rattle.message.specs.Fields.{field-flags, field-part, field-size}
 use Rattle.message.specs.Messages.{application-avp}
 use Rattle.message.specs.Parts.{one, application-part}
-use Rattle.message.specs.Laws.{is-group-field}
 use Rattle.message.proofs.Parts.{one-fits, field-fits, head-le, cond-le, all-both, application-sound, field-sound}
 use Rattle.notification.specs.Limits.{address-limit, place-limit}
-use Rattle.notification.specs.Notifications.{Notification, session-of, event-number, address-data, address-size, tells-field, field-avp, field-avp-size, notification-body, body-size, notification-bytes}
-use Rattle.notification.specs.Parts.{told-parts, event-part, address-part, name-part, notification-parts}
+use Rattle.notification.specs.Notifications.{Notification, session-of, event-number, address-data, tells-field, field-avp-size, notification-body, notification-bytes}
+use Rattle.notification.specs.Parts.{told-parts, notification-parts}
 use Rattle.notification.specs.Laws.{Bounded, Value-sound, Notifications-fit, Notifications-sound, Notifications-read-back, Header-worked, Addresses-read-back, Events-read-back}
 use Rattle.notification.proofs.Lengths.{length-session, length-address, length-whole, length-notification}
 

@@ -1,14 +1,14 @@
 -- How long a notification is.
-use mathlib.Core.Path.{_≡_, refl, sym, ap, _∙_}
+use mathlib.Core.Path.{_≡_, refl, ap, _∙_}
 use mathlib.Core.Bool.{Bool, true, false, cond}
 use mathlib.Core.List.{List, [], _∷_, _++_}
-use Prim.Native.Nat.{ℕ, suc, _+_, _≤_}
+use Prim.Native.Nat.{ℕ, suc, _+_}
 use native.Mathlib.Omega.{arith}
 use lib.ListN.{length, length-append}
 use Rattle.std.specs.Written.{decimal}
 use Rattle.dictionary.specs.Addresses.{Address}
 use Rattle.writer.specs.Bytes.{bytes32}
-use Rattle.writer.specs.Avps.{avp-size, avp}
+use Rattle.writer.specs.Avps.{avp}
 use Rattle.writer.specs.Parts.{part-bytes}
 use Rattle.writer.proofs.Avps.{length-avp, avp-size-whole}
 use Rattle.message.specs.Fields.{field-code, field-vendor, field-flags, field-part, field-size}

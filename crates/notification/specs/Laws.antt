@@ -3,10 +3,9 @@
 --     Value-sound n   the value, where the event is a change of a field that is a group, is sound where a value stands
 use mathlib.Core.Path.{_≡_}
 use mathlib.Core.Bool.{true}
-use mathlib.Core.List.{List, map}
+use mathlib.Core.List.{map}
 use Prim.Native.Nat.{ℕ, _^_, _≤_, _<_}
 use lib.ListN.{length}
-use Rattle.std.specs.declared.option.Option.{Option}
 use Rattle.std.specs.declared.option.Option.the-variants.{Some}
 use Rattle.diameter.specs.Headers.{header-of, body}
 use Rattle.diameter.specs.Lists.{avps}

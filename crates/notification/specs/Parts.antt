@@ -3,7 +3,7 @@
 --     address-part a         the Globally-Unique-Address
 --     notification-parts n   all AVPs, in their order
 use mathlib.Core.Bool.{cond}
-use mathlib.Core.List.{List, [], _∷_, _++_}
+use mathlib.Core.List.{List, [], _∷_}
 use Prim.Native.Nat.{ℕ}
 use Rattle.dictionary.specs.Addresses.{Address}
 use Rattle.writer.specs.Bytes.{bytes32}

@@ -1,8 +1,7 @@
-use mathlib.Core.Path.{_≡_, sym, ap, _∙_}
+use mathlib.Core.Path.{_≡_, sym, ap}
 use Prim.Native.Nat.{ℕ}
 use native.Mathlib.Omega.{arith}
 use lib.ListN.{length, length-replicate}
-use borrow.Author.Needs.{needs}
 use Rattle.writer.specs.Bytes.{zeros}
 use Rattle.writer.specs.Avps.{avp}
 use Rattle.writer.proofs.Stores.{_⊕_, appends-as}

@@ -1,8 +1,7 @@
-use mathlib.Core.Path.{_≡_, sym, ap, _∙_}
-use mathlib.Core.List.{List}
+use mathlib.Core.Path.{_≡_, ap, _∙_}
 use Prim.Native.Nat.{ℕ, _+_, _-_}
 use native.Mathlib.Omega.{arith}
-use lib.ListN.{length, take, length-append, length-take, length-replicate}
+use lib.ListN.{length, take}
 use Rattle.diameter.specs.Lists.{Avp}
 use Rattle.diameter.specs.Views.{avp-of}
 use Rattle.writer.specs.Bytes.{zeros}

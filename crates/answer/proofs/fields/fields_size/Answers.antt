@@ -1,13 +1,13 @@
 use mathlib.Core.Path.{_≡_, ap, _∙_}
-use mathlib.Core.List.{List, _∷_}
-use Prim.Native.Nat.{ℕ, _≤_}
+use mathlib.Core.List.{List}
+use Prim.Native.Nat.{ℕ}
 use native.Mathlib.Omega.{arith}
 use lib.ListN.{length}
 use borrow.Author.Needs.{needs}
 use Rattle.writer.specs.Parts.{parts-size}
 use Rattle.fieldset.specs.Fields.{number}
 use Rattle.fieldset.specs.Sets.{members}
-use Rattle.message.specs.Fields.{field-size, field-parts, limits-size}
+use Rattle.message.specs.Fields.{field-size, field-parts}
 use Rattle.message.proofs.Fields.{size-more, limits-more, size-within, limits-most}
 use Rattle.answer.proofs.fields.fields_size.Needs as need
 

@@ -1,13 +1,13 @@
 use mathlib.Core.Path.{_≡_, sym, ap, _∙_}
 use mathlib.Core.List.{List, _∷_, _++_, append-assoc, append-nil}
-use Prim.Native.Nat.{ℕ, _≤_}
+use Prim.Native.Nat.{ℕ}
 use native.Mathlib.Omega.{arith}
 use lib.ListN.{length}
 use borrow.Author.Needs.{needs}
 use Rattle.fieldset.specs.Fields.{number}
 use Rattle.fieldset.specs.Sets.{members}
 use Rattle.writer.specs.Parts.{part-bytes, parts-bytes}
-use Rattle.writer.proofs.Stores.{_⊕_, appends-as, appends-none}
+use Rattle.writer.proofs.Stores.{_⊕_, appends-as}
 use Rattle.message.specs.Fields.{field-part, field-parts, field-size}
 use Rattle.message.proofs.Fields.{size-more, bytes-more}
 use Rattle.answer.proofs.fields.put_fields.Needs as need

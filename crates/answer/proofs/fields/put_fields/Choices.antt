@@ -1,6 +1,6 @@
 use mathlib.Core.Path.{_≡_}
 use mathlib.Core.List.{List, _++_}
-use Prim.Native.Nat.{ℕ, _+_, _≤_}
+use Prim.Native.Nat.{ℕ}
 use Rattle.fieldset.specs.Sets.{members}
 use Rattle.writer.specs.Parts.{parts-bytes, parts-size}
 use Rattle.writer.specs.Stores.{Appends, room}

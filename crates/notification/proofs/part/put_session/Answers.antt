@@ -1,8 +1,7 @@
-use mathlib.Core.Path.{_≡_, ap}
+use mathlib.Core.Path.{ap}
 use mathlib.Core.List.{List}
 use native.Mathlib.Omega.{arith}
 use Prim.Native.Nat.{ℕ}
-use lib.ListN.{length}
 use Rattle.writer.specs.Bytes.{zeros}
 use Rattle.writer.proofs.Avps.{length-avp, sized-avp}
 use Rattle.writer.proofs.Stores.{_⊕_, appends-as}
