@@ -1,0 +1,45 @@
+//! Laws over whole histories, each on a function that has nothing else to do.
+ghost use Rattle.model.specs.Days.{Worked-day, Seventeen-due};
+ghost use Rattle.model.specs.Guards.{Pair-alike, Leaks-shut-out, Miscounts-shut-out, Places-chosen};
+ghost use Rattle.model.specs.Histories.{Isolation, Accounts};
+
+/// What the calls of a day return, computed.
+pub fn worked_day()
+    ensures { λ _. ⌜ Worked-day ⌝ }
+{}
+
+/// Seventeen events fall due and none is taken: 16 wait, and 1 is lost.
+pub fn seventeen_due()
+    ensures { λ _. ⌜ Seventeen-due ⌝ }
+{}
+
+/// What an application function is told hangs on nothing but its own two sets, the opening, and the calls that are not struck for it: over any two
+/// rule books, and for any two transcripts whatever.
+pub fn isolation()
+    ensures { λ _. ⌜ Isolation ⌝ }
+{}
+
+/// Whenever an application function of the sheet asks for its counts, they are those of its ledger, and sum up to the events that fell due to it.
+pub fn accounts()
+    ensures { λ _. ⌜ Accounts ⌝ }
+{}
+
+/// Two histories over two rule books that differ in what is hidden from an application function are alike for it, and it is shown two fields in both.
+pub fn pair_alike()
+    ensures { λ _. ⌜ Pair-alike ⌝ }
+{}
+
+/// Isolation shuts out each of five ways to leak.
+pub fn leaks_shut_out()
+    ensures { λ _. ⌜ Leaks-shut-out ⌝ }
+{}
+
+/// Accounts shut out an invented loss, and a second subscriber who is not served.
+pub fn miscounts_shut_out()
+    ensures { λ _. ⌜ Miscounts-shut-out ⌝ }
+{}
+
+/// The place that a new entry takes is one that is free, and there is one when some place is free.
+pub fn places_chosen()
+    ensures { λ _. ⌜ Places-chosen ⌝ }
+{}
