@@ -31,11 +31,11 @@ pub record Side : Type 0 where
   pub sessions : List (Option Session)
   pub af : Af
 
-abbrev side : Sets → ℕ → State → Side
+abbrev pub side : Sets → ℕ → State → Side
 side r a s = record { now = s .now; sessions = veil r (s .sessions); af = getD (s .afs) a new-af }
 
 -- a's side after a call; a has a record if `known`
-abbrev side-after : Opening → Sets → ℕ → Bool → Side → Call → Side
+abbrev pub side-after : Opening → Sets → ℕ → Bool → Side → Call → Side
 side-after o r a known v c =
     record {
       now = now-after (v .now) c;
@@ -233,7 +233,7 @@ reply-own o R s a (Settle b serial n) h = at-caller o R s a b (Settle b serial n
 reply-own o R s a (Tell b) h = at-caller o R s a b (Tell b) h
 
 module _ (o : Opening) (R : Book) (a : ℕ) where
-  side-still : (l : Ledger) (s : State) (c : Call) (rest : List (Call × Bool)) → Same-entries (l .sessions) (s .sessions) → struck (R a) a l c rest ≡ true → side (R a) a (after o R s c) ≡ side (R a) a s
+  pub side-still : (l : Ledger) (s : State) (c : Call) (rest : List (Call × Bool)) → Same-entries (l .sessions) (s .sessions) → struck (R a) a l c rest ≡ true → side (R a) a (after o R s c) ≡ side (R a) a s
   side-still l s c rest g h =
       let x = getD (s .afs) a new-af in
       let n = now-still o (R a) a l (s .now) c rest h in
@@ -242,7 +242,7 @@ module _ (o : Opening) (R : Book) (a : ℕ) where
       let q = getD-each (λ b x. af-after o (R b) b (s .now) (s .sessions) c x) (s .afs) a new-af ∙ ap (λ y. cond known y x) (af-still o (R a) a l (s .now) (s .sessions) g c rest x h) ∙ sym (same known x) in
       λ i. record { now = n i; sessions = p i; af = q i }
 
-  side-on : (s : State) (c : Call) → side (R a) a (after o R s c) ≡ side-after o (R a) a (ltb a (length (s .afs))) (side (R a) a s) c
+  pub side-on : (s : State) (c : Call) → side (R a) a (after o R s c) ≡ side-after o (R a) a (ltb a (length (s .afs))) (side (R a) a s) c
   side-on s c =
       let x = getD (s .afs) a new-af in
       let p = sessions-on o (R a) a (s .sessions) c in

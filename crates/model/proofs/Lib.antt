@@ -6,3 +6,5 @@ pub mod Granted
 pub mod Balanced
 pub mod Computed
 pub mod Guarded
+pub mod Kept
+pub mod Remaining

@@ -2,7 +2,7 @@
 use mathlib.Core.Path.{_≡_, refl, sym, ap, _∙_, subst}
 use mathlib.Core.Bool.{Bool, true, false, _&&_, _||_, not, cond}
 use mathlib.Core.List.{List, [], _∷_, _++_, map}
-use Prim.Native.Nat.{ℕ, zero, suc, _+_, _*_, _/_, _%_, _^_, _<_}
+use Prim.Native.Nat.{ℕ, zero, suc, _+_, _*_, _/_, _%_, _^_, _<_, _≤_}
 use native.Mathlib.Omega.{arith}
 use lib.Count.{ones}
 use lib.Dec.{eqb, leb, ltb}
@@ -29,6 +29,7 @@ use Rattle.message.specs.Fields.{field-part, field-parts}
 use Rattle.model.specs.Values.{Sets, Session, Opening, Reply, Answered, value, in-view}
 use Rattle.model.specs.Steps.{Af, those, requested, shown, is-empty, is-stored, nothing-to-show, no-place, ambiguous, about, fitting, no-session, subject-refusals, judged-asking, plainly, session-of, success-bytes, shown-to, answered}
 use Rattle.refusal.specs.Verdicts.{judged}
+use Rattle.model.specs.Laws.{Shown-exactly}
 use Rattle.model.proofs.Veil.{by, veiled, veil, value-veiled, seen-test, fitting-veil}
 
 -- ---- sets
@@ -56,6 +57,27 @@ in-those : (d : ℕ) (p : ℕ → Bool) (k : ℕ) → has (those d p) k ≡ true
 in-those zero p k h = absurd (false≢true (sym (none-in k) ∙ h))
 in-those (suc d) p zero h = sym (has-low (p 0) (those d (λ k. p (suc k)))) ∙ h
 in-those (suc d) p (suc k) h = in-those d (λ k. p (suc k)) k (sym (has-high (p 0) (those d (λ k. p (suc k))) k) ∙ h)
+
+in-below : (d : ℕ) (p : ℕ → Bool) (k : ℕ) → k < d → has (those d p) k ≡ p k
+in-below zero p k h = absurd (no-less k h)
+  where
+    no-less : (k : ℕ) → k < 0 → ⊥
+    no-less k h = omega (arith, h)
+in-below (suc d) p zero h = has-low (p 0) (those d (λ k. p (suc k)))
+in-below (suc d) p (suc k) h = has-high (p 0) (those d (λ k. p (suc k))) k ∙ in-below d (λ k. p (suc k)) k (omega (arith, h))
+
+none-above : (d : ℕ) (p : ℕ → Bool) (k : ℕ) → d ≤ k → has (those d p) k ≡ false
+none-above zero p k h = none-in k
+none-above (suc d) p zero h = absurd (not-above d h)
+  where
+    not-above : (d : ℕ) → suc d ≤ 0 → ⊥
+    not-above d h = omega (arith, h)
+none-above (suc d) p (suc k) h = has-high (p 0) (those d (λ k. p (suc k))) k ∙ none-above d (λ k. p (suc k)) k (omega (arith, h))
+
+pub shown-exactly : Shown-exactly
+shown-exactly r named s k =
+    let p : ℕ → Bool = λ k. has (requested named) k && (in-view r s k && is-stored s k) in
+    (in-below 10 p k, none-above 10 p k)
 
 -- ---- bytes
 

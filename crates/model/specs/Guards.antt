@@ -8,6 +8,7 @@
 --     Leaks-shut-out    transcripts in which: what is withheld is shown; a withheld field is refused otherwise than an absent one; a notice is due without
 --                       a look at the view; one serial serves all AFs; the places of subscriptions are shared
 --     Miscounts-shut-out   transcripts in which: a loss is invented; the second subscriber is not served
+--     Left-alike        a history and the history of only those of its calls that are left for an AF are alike for it: what is hidden looks as if it had never been
 --     Places-chosen     what may be used of the choice of a free place: it is within, it is free, and it is there when some place is free
 use mathlib.Core.Path.{_≡_}
 use mathlib.Core.Bool.{Bool, true, false}
@@ -17,9 +18,9 @@ use lib.ListN.{getD, replicate}
 use Rattle.std.specs.Options.{isSome}
 use Rattle.std.specs.declared.option.Option.{Option}
 use Rattle.std.specs.declared.option.Option.the-variants.{Some, None}
-use Rattle.model.specs.Values.{Book, Call, Arrive, Set, Ask, Take, Settle, Tell, Reply, Done, Answered, Taken, Counts, Line}
+use Rattle.model.specs.Values.{Book, Opening, Call, Arrive, Set, Ask, Take, Settle, Tell, Reply, Done, Answered, Taken, Counts, Line, outcome}
 use Rattle.model.specs.Places.{free-place}
-use Rattle.model.specs.Ledger.{own}
+use Rattle.model.specs.Ledger.{left, own}
 use Rattle.model.specs.Statements.{Alike, Untold, Balanced}
 use Rattle.model.specs.Steps.{opened}
 use Rattle.model.specs.Histories.{transcript}
@@ -96,6 +97,12 @@ abbrev pub Miscounts-shut-out : Type 0
 Miscounts-shut-out =
     (Balanced rights 2 (line (Tell 0) (Counts 0 0 1 0) ∷ []) → ⊥)
     × (Balanced rights 2 (line come (Done 0) ∷ line want (Answered 0 0 []) ∷ line want-too (Answered 0 0 []) ∷ line (Set home 5 (1 ∷ [])) (Done 0) ∷ line (Tell 1) (Counts 0 0 0 0) ∷ []) → ⊥)
+
+abbrev pub Left-alike : Type 0
+Left-alike =
+    (a : ℕ) (o : Opening) (R : Book) (cs : List Call)
+    → let ls = transcript o R (opened o) cs in
+    Alike a o o (R a) (R a) ls (transcript o R (opened o) (left (R a) a (map outcome ls)))
 
 abbrev pub Places-chosen : Type 0
 Places-chosen =

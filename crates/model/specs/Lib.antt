@@ -6,3 +6,4 @@ pub mod Statements
 pub mod Histories
 pub mod Days
 pub mod Guards
+pub mod Laws

@@ -1,6 +1,7 @@
 //! Laws over whole histories, each on a function that has nothing else to do.
 ghost use Rattle.model.specs.Days.{Worked-day, Seventeen-due};
-ghost use Rattle.model.specs.Guards.{Pair-alike, Leaks-shut-out, Miscounts-shut-out, Places-chosen};
+ghost use Rattle.model.specs.Guards.{Pair-alike, Leaks-shut-out, Miscounts-shut-out, Left-alike, Places-chosen};
+ghost use Rattle.model.specs.Laws.{Refused-keeps, Nothing-waiting, Shown-exactly};
 ghost use Rattle.model.specs.Histories.{Isolation, Accounts};
 
 /// What the calls of a day return, computed.
@@ -29,6 +30,11 @@ pub fn pair_alike()
     ensures { λ _. ⌜ Pair-alike ⌝ }
 {}
 
+/// A history and that of only those of its calls that are left for an application function are alike for it.
+pub fn left_alike()
+    ensures { λ _. ⌜ Left-alike ⌝ }
+{}
+
 /// Isolation shuts out each of five ways to leak.
 pub fn leaks_shut_out()
     ensures { λ _. ⌜ Leaks-shut-out ⌝ }
@@ -42,4 +48,19 @@ pub fn miscounts_shut_out()
 /// The place that a new entry takes is one that is free, and there is one when some place is free.
 pub fn places_chosen()
     ensures { λ _. ⌜ Places-chosen ⌝ }
+{}
+
+/// A call that is refused leaves everything as it was.
+pub fn refused_keeps()
+    ensures { λ _. ⌜ Refused-keeps ⌝ }
+{}
+
+/// Take says that nothing waits exactly when all else is in order and nothing waits.
+pub fn nothing_waiting()
+    ensures { λ _. ⌜ Nothing-waiting ⌝ }
+{}
+
+/// An ask shows exactly the fields that are requested, in the view and stored.
+pub fn shown_exactly()
+    ensures { λ _. ⌜ Shown-exactly ⌝ }
 {}
