@@ -8,3 +8,4 @@ pub mod Computed
 pub mod Guarded
 pub mod Kept
 pub mod Remaining
+pub mod Counts

@@ -1,7 +1,7 @@
 //! Laws over whole histories, each on a function that has nothing else to do.
 ghost use Rattle.model.specs.Days.{Worked-day, Seventeen-due};
 ghost use Rattle.model.specs.Guards.{Pair-alike, Leaks-shut-out, Miscounts-shut-out, Left-alike, Places-chosen};
-ghost use Rattle.model.specs.Laws.{Refused-keeps, Nothing-waiting, Shown-exactly};
+ghost use Rattle.model.specs.Laws.{Refused-keeps, Nothing-waiting, Shown-exactly, Records-apart, Counts-rise};
 ghost use Rattle.model.specs.Histories.{Isolation, Accounts};
 
 /// What the calls of a day return, computed.
@@ -63,4 +63,14 @@ pub fn nothing_waiting()
 /// An ask shows exactly the fields that are requested, in the view and stored.
 pub fn shown_exactly()
     ensures { λ _. ⌜ Shown-exactly ⌝ }
+{}
+
+/// What one application function asks, takes, settles or is told leaves the record of every other as it was: serials move independently.
+pub fn records_apart()
+    ensures { λ _. ⌜ Records-apart ⌝ }
+{}
+
+/// Acknowledged, given up and lost never fall.
+pub fn counts_rise()
+    ensures { λ _. ⌜ Counts-rise ⌝ }
 {}
