@@ -1,8 +1,7 @@
 //! The AVP at the front of a sequence, as a view of its bytes.
 ghost use mathlib.Core.Path.{_≡_};
 ghost use mathlib.Core.Bool.{true, false};
-ghost use Prim.Native.Nat.{_≤_, _<_};
-ghost use lib.ListN.{length};
+ghost use Prim.Native.Nat.{_<_};
 ghost use Rattle.std.specs.Options.{Cases as BySome};
 ghost use Rattle.diameter.specs.Bytes.{flagged};
 ghost use Rattle.diameter.specs.Avps.{stands, group};

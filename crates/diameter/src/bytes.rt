@@ -2,7 +2,7 @@
 ghost use mathlib.Core.Path.{_≡_};
 ghost use Prim.Native.Nat.{_+_, _≤_, _<_, _^_};
 ghost use lib.ListN.{length};
-ghost use Rattle.diameter.specs.Bytes.{be24, be32, flagged};
+ghost use Rattle.diameter.specs.Bytes.{be24, be32};
 
 /// The number in the three bytes from `at` on.
 pub(crate) fn u24_at(bytes: &[u8], at: usize) -> u32

@@ -11,7 +11,7 @@ use Rattle.std.specs.declared.option.Option.the-variants.{Some, None}
 use Rattle.std.specs.declared.result.Result.{Result}
 use Rattle.std.specs.declared.result.Result.the-variants.{Ok, Err}
 use Rattle.refusal.specs.declared.Refusal.{Refusal}
-use Rattle.hex.specs.Spelling.{Spelled, spelled}
+use Rattle.hex.specs.Spelling.{spelled}
 use Rattle.request.specs.Askings.{Asking, Rejected}
 use Rattle.e2.specs.Checks.{checked}
 use Rattle.e2.specs.declared.Command.{Command}

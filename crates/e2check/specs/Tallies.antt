@@ -1,11 +1,15 @@
 -- The counts of lines, one more at a time. A count that is full stays.
+--     none-counted  the counts before the first line
 --     counted j t   the counts t after a line that is judged j
 use Prim.Native.Nat.{ℕ, _+_, _-_, _^_, min}
-use lib.ListN.{getD, set}
+use lib.ListN.{getD, set, replicate}
 use Rattle.refusal.specs.Refusals.{number}
 use Rattle.e2check.specs.declared.line.Judged.{Judged}
 use Rattle.e2check.specs.declared.line.Judged.the-variants.{Nothing, Sound, Refused, NotHex}
 use Rattle.e2check.specs.declared.tally.Tally.{Tally}
+
+abbrev pub none-counted : Tally
+none-counted = record { sound = 0; refused = replicate 64 0; unreadable = 0 }
 
 abbrev pub more : ℕ → ℕ
 more n = min (n + 1) (2 ^ 64 - 1)

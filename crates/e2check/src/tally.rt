@@ -2,7 +2,7 @@
 ghost use mathlib.Core.Path.{_≡_};
 ghost use lib.ListN.{getD};
 ghost use Rattle.refusal.specs.Refusals.{number};
-ghost use Rattle.e2check.specs.Tallies.{counted};
+ghost use Rattle.e2check.specs.Tallies.{counted, «none-counted»};
 use crate::line::Judged;
 use refusal::Refusal;
 
@@ -16,7 +16,10 @@ pub struct Tally {
 }
 
 impl Tally {
-    pub fn new() -> Tally {
+    /// No line is counted yet.
+    pub fn new() -> Tally
+        ensures { λ r. ⌜ r ≡ none-counted ⌝ }
+    {
         Tally {
             sound: 0,
             refused: [0; 64],

@@ -1,6 +1,6 @@
 -- Bytes written in digits are read back.
-use mathlib.Core.Path.{_≡_, refl, sym, ap, _∙_}
-use mathlib.Core.Bool.{Bool, true, false, cond}
+use mathlib.Core.Path.{_≡_, refl, ap, _∙_}
+use mathlib.Core.Bool.{false, cond}
 use mathlib.Core.List.{List, [], _∷_}
 use Prim.Native.Nat.{ℕ, suc, _+_, _*_, _/_, _%_, _<_}
 use native.Mathlib.Omega.{arith}
@@ -8,7 +8,7 @@ use lib.ListN.{getD}
 use Rattle.std.proofs.shelf.Ways.{tells}
 use Rattle.std.specs.declared.option.Option.{Option}
 use Rattle.std.specs.declared.option.Option.the-variants.{Some, None}
-use Rattle.hex.specs.Spelling.{Spelled, digit, blank, after, completed, waiting, by-digit, spelled}
+use Rattle.hex.specs.Spelling.{digit, blank, after, completed, waiting, by-digit, spelled}
 use Rattle.hex.specs.Laws.{upper, lower, written, Read-back}
 
 -- a way to write digits that is read back digit by digit

@@ -8,7 +8,7 @@ use Prim.Native.Nat.{ℕ, _+_, _/_, _%_, _<_}
 use lib.Dec.{ltb}
 use lib.ListN.{getD}
 use Rattle.std.specs.declared.option.Option.the-variants.{None}
-use Rattle.hex.specs.Spelling.{Spelled, spelled}
+use Rattle.hex.specs.Spelling.{spelled}
 
 abbrev pub upper : ℕ → ℕ
 upper n = cond (ltb n 10) (n + 0x30) (n + 0x37)

@@ -1,18 +1,17 @@
 -- The ledger has the sessions that the places have.
-use mathlib.Core.Path.{_≡_, refl, sym, ap, _∙_, subst}
+use mathlib.Core.Path.{_≡_, refl, sym, ap, _∙_}
 use mathlib.Core.Bool.{Bool, true, false, _&&_, _||_, not, cond}
-use mathlib.Core.List.{List, [], _∷_, _++_, map}
-use Prim.Native.Nat.{ℕ, zero, suc, _+_, _^_, _<_}
+use mathlib.Core.List.{List, [], _∷_, _++_}
+use Prim.Native.Nat.{ℕ, zero, suc, _+_, _^_}
 use native.Mathlib.Omega.{arith}
 use lib.Dec.{eqb, leb, ltb}
-use lib.ListN.{length, getD, set, replicate}
+use lib.ListN.{getD, set, replicate}
 use Rattle.std.specs.Options.{isSome, mapped}
 use Rattle.std.specs.declared.option.Option.{Option}
 use Rattle.std.specs.declared.option.Option.the-variants.{Some, None}
-use Rattle.std.proofs.shelf.Tests.{false≢true, true≢false, or-parts, not-false, not-true, lt-ltb}
+use Rattle.std.proofs.shelf.Tests.{false≢true, true≢false, not-false, lt-ltb}
 use Rattle.refusal.specs.declared.Refusal.the-variants.{WrongArgument, AddressTaken, NoRoom}
-use Rattle.dictionary.specs.Addresses.{Address}
-use Rattle.model.specs.Values.{Sets, Book, Session, Notice, Opening, Call, Arrive, Set, Leave, Clock, Ask, Take, Settle, Tell, refused, fresh, with-value, some, entries}
+use Rattle.model.specs.Values.{Sets, Book, Notice, Opening, Call, Arrive, Set, Leave, Clock, Ask, Take, Settle, Tell, refused, fresh, with-value, some, entries}
 use Rattle.model.specs.Places.{is-taken, free-place, has-room, put-at, placed, altered}
 use Rattle.model.specs.Ledger.{Ledger, through, kept-if, entered, set-in, not-at, on-ask, on-settle, with-settled, loses}
 use Rattle.model.specs.Steps.{State, accepts, wrong-address, wrong-name, wrong-set, in-use, arrive-refusals, set-refusals, leave-refusals, at-address-only, sessions-after, reply}

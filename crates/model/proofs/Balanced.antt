@@ -1,37 +1,30 @@
 -- The counts of an AF are those of its ledger, and sum up to what fell due.
 use mathlib.Core.Path.{_≡_, refl, sym, ap, _∙_, subst}
-use mathlib.Core.Bool.{Bool, true, false, _&&_, _||_, not, cond}
+use mathlib.Core.Bool.{Bool, true, false, _&&_, not, cond}
 use mathlib.Core.List.{List, [], _∷_, _++_, map}
 use Prim.Native.Nat.{ℕ, zero, suc, _+_, _-_, _^_, _<_, _≤_, max}
 use native.Mathlib.Omega.{arith}
-use lib.Dec.{eqb, leb, ltb}
+use lib.Dec.{eqb, ltb}
 use lib.ListN.{length, getD, replicate, length-append, length-replicate}
 use Rattle.std.specs.declared.option.Option.{Option}
-use Rattle.std.specs.declared.option.Option.the-variants.{Some, None}
 use Rattle.std.specs.declared.result.Result.{Result}
 use Rattle.std.specs.declared.result.Result.the-variants.{Ok, Err}
-use Rattle.std.proofs.shelf.Tests.{false≢true, true≢false, not-false, and-cases, lt-ltb, eqb-true}
+use Rattle.std.proofs.shelf.Tests.{false≢true, not-false, lt-ltb}
 use Rattle.std.proofs.shelf.Ways.{tells}
 use Rattle.refusal.specs.declared.Refusal.the-variants.{UnknownAf}
-use Rattle.refusal.specs.Refusals.{number}
 use Rattle.dictionary.specs.Addresses.{Address}
-use Rattle.diameter.specs.Headers.{body}
-use Rattle.diameter.specs.Lists.{avps}
-use Rattle.e2.specs.Checks.{command-of}
 use Rattle.request.specs.Askings.{Asking, Rejected}
-use Rattle.request.specs.Readings.{asking}
 use Rattle.request.specs.declared.asking.Asked.{Asked}
 use Rattle.request.specs.declared.asking.Asked.the-variants.{UserData, Subscribe, Unsubscribe}
-use Rattle.model.specs.Values.{Sets, Book, Session, Subscription, Notice, Opening, Call, Arrive, Set, Leave, Clock, Ask, Take, Settle, Tell, Reply, Done, Answered, Taken, Counts, Line, outcome, refused, fresh, at-place, holds, some, entries}
+use Rattle.model.specs.Values.{Sets, Book, Session, Subscription, Notice, Opening, Call, Arrive, Set, Leave, Clock, Ask, Take, Settle, Tell, Reply, Done, Counts, Line, outcome, refused, at-place, holds, some, entries}
 use Rattle.model.specs.Places.{placed, altered, has-room}
-use Rattle.model.specs.Ledger.{Ledger, blank, with-sessions, with-subs as with-wants, through, due-event, is-altered, change-falls-due, on-set, on-leave, not-of, not-over, on-clock, on-ask, subs-asked, address-meant, replaced, loses, on-settle, with-settled, entered, ledger-from, ledger}
-use Rattle.model.specs.Statements.{Balanced}
-use Rattle.model.specs.Steps.{Af, State, new-af, opened, accepts, number-of, arrive-refusals, set-refusals, leave-refusals, take-refusals, settle-refusals, tell-refusals, sessions-after, now-after, af-after, raised, with-subs, notified, due-notice, alters, is-change, change-due, logoff, ended, unless-lapsed, renewed, lessened, subs-after, recorded, is-subscription, no-place, af-asked, af-left, handed, back, missed, hopeless, settled, answered, ask-verdict, about, fitting, reply, reply-to, each, after, counted, off-sheet}
-use Rattle.model.specs.Histories.{Leads, Lived, transcript, Accounts}
+use Rattle.model.specs.Ledger.{Ledger, blank, with-sessions, with-subs as with-wants, through, due-event, change-falls-due, on-set, not-of, not-over, on-ask, subs-asked, address-meant, replaced, loses, on-settle, with-settled, entered, ledger-from, ledger}
+use Rattle.model.specs.Steps.{Af, State, new-af, opened, accepts, number-of, arrive-refusals, set-refusals, leave-refusals, take-refusals, settle-refusals, now-after, af-after, raised, with-subs, notified, due-notice, alters, is-change, change-due, logoff, unless-lapsed, renewed, lessened, subs-after, recorded, is-subscription, no-place, af-asked, af-left, handed, back, missed, hopeless, settled, answered, ask-verdict, about, fitting, reply, each, after}
+use Rattle.model.specs.Histories.{transcript, Accounts}
 use Rattle.model.proofs.Veil.{by}
-use Rattle.model.proofs.Agrees.{total, Same-entries, same-altered, some-agrees, agrees-after, placed-total, none-yet}
+use Rattle.model.proofs.Agrees.{Same-entries, same-altered, some-agrees, agrees-after, placed-total, none-yet}
 use Rattle.model.proofs.Isolated.{length-each, getD-each, reply-own, made}
-use Rattle.model.proofs.Granted.{counted-from-one, Granted, granted, meant}
+use Rattle.model.proofs.Granted.{counted-from-one, granted, meant}
 
 -- ---- counts that stop
 

@@ -4,7 +4,6 @@ use mathlib.Core.List.{List, [], _∷_, _++_, map}
 use Prim.Native.Nat.{ℕ, zero, suc}
 use lib.Count.{ones}
 use lib.ListN.{replicate, drop}
-use Rattle.std.specs.declared.option.Option.{Option}
 use Rattle.std.specs.declared.option.Option.the-variants.{Some, None}
 use Rattle.diameter.specs.Lists.{cut}
 use Rattle.diameter.specs.Soundness.{walk, sound}
@@ -12,7 +11,7 @@ use Rattle.fieldset.specs.Sets.{members}
 use Rattle.request.specs.Faults.{with-parts, repeated}
 use Rattle.request.specs.Readings.{union}
 use Rattle.answer.specs.Answers.{answer-bytes}
-use Rattle.model.specs.Values.{Notice, Session, Subscription, Call, Arrive, Set, Ask, Tell, Reply, Line}
+use Rattle.model.specs.Values.{Notice, Session, Call, Arrive, Set, Ask, Line}
 use Rattle.model.specs.Places.{free-place}
 use Rattle.model.specs.Steps.{Af, State, new-af, opened, after, reply, due-notice}
 use Rattle.model.specs.Histories.{transcript}

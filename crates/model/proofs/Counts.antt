@@ -1,8 +1,8 @@
 -- The records of AFs: each moves by its own calls, and its counts never fall.
-use mathlib.Core.Path.{_≡_, refl, ap}
+use mathlib.Core.Path.{refl, ap}
 use mathlib.Core.Bool.{Bool, true, false, cond, _&&_}
 use mathlib.Core.List.{List, [], _∷_}
-use Prim.Native.Nat.{ℕ, _+_, _≤_, max}
+use Prim.Native.Nat.{ℕ, _≤_}
 use native.Mathlib.Omega.{arith}
 use lib.Dec.{eqb, ltb}
 use lib.ListN.{length}
@@ -11,8 +11,8 @@ use Rattle.std.specs.declared.option.Option.{Option}
 use Rattle.std.specs.declared.result.Result.{Result}
 use Rattle.std.specs.declared.result.Result.the-variants.{Ok, Err}
 use Rattle.request.specs.Askings.{Asking, Rejected}
-use Rattle.model.specs.Values.{Sets, Session, Notice, Opening, Call, Arrive, Set, Leave, Clock, Ask, Take, Settle, Tell, holds, some, entries}
-use Rattle.model.specs.Steps.{Af, raised, notified, due-notice, logoff, line-most, af-asked, is-subscription, ask-verdict, af-left, handed, settled, hopeless, accepts, set-refusals, leave-refusals, take-refusals, settle-refusals, change-due, af-after}
+use Rattle.model.specs.Values.{Session, Notice, Arrive, Set, Leave, Clock, Ask, Take, Settle, Tell, holds, some, entries}
+use Rattle.model.specs.Steps.{Af, raised, notified, due-notice, logoff, line-most, af-asked, is-subscription, ask-verdict, handed, settled, hopeless, accepts, set-refusals, leave-refusals, take-refusals, settle-refusals, change-due}
 use Rattle.model.specs.Laws.{Risen, Records-apart, Counts-rise}
 
 pub records-apart : Records-apart

@@ -1,10 +1,10 @@
 -- What an accepted request asks, and which session it is about.
 use mathlib.Core.Path.{_≡_, refl, sym, ap, _∙_, subst}
-use mathlib.Core.Bool.{Bool, true, false, _&&_, _||_, not, cond}
-use mathlib.Core.List.{List, [], _∷_, _++_, map}
-use Prim.Native.Nat.{ℕ, zero, suc, _+_, _<_}
+use mathlib.Core.Bool.{Bool, true, false, cond}
+use mathlib.Core.List.{List, [], _∷_}
+use Prim.Native.Nat.{ℕ, suc, _+_, _<_}
 use native.Mathlib.Omega.{arith}
-use lib.Dec.{eqb, leb, ltb}
+use lib.Dec.{eqb, leb}
 use lib.ListN.{length}
 use Rattle.std.specs.declared.option.Option.{Option}
 use Rattle.std.specs.declared.option.Option.the-variants.{Some, None}
@@ -24,9 +24,9 @@ use Rattle.e2.specs.Checks.{checked, refusals, command-of}
 use Rattle.e2.specs.declared.Command.{Command}
 use Rattle.request.specs.Askings.{Subject, at-address, of-user, Asking, Rejected}
 use Rattle.request.specs.Readings.{reading, after-check, unless-refused, first-fault, faults, asking}
-use Rattle.model.specs.Values.{Sets, Session, Opening, same-address, lives-at, is-named, fits, entries}
+use Rattle.model.specs.Values.{Sets, Session, Opening, same-address, lives-at, is-named, entries}
 use Rattle.model.specs.Ledger.{address-named, address-meant}
-use Rattle.model.specs.Steps.{Af, plainly, and-then, door-refusals, name-of, heard, judged-asking, ask-verdict, subject-refusals, fitting, about, is-empty, ambiguous, nothing-to-show, no-place}
+use Rattle.model.specs.Steps.{Af, plainly, and-then, door-refusals, name-of, heard, judged-asking, ask-verdict, fitting, about, is-empty, ambiguous, nothing-to-show, no-place}
 use Rattle.model.proofs.Veil.{by}
 use Rattle.model.proofs.Agrees.{total, Same-entries}
 

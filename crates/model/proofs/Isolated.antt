@@ -1,25 +1,25 @@
 -- What an AF is told is a function of what it sees and of the calls that are left for it.
-use mathlib.Core.Path.{_≡_, refl, sym, ap, _∙_, subst}
+use mathlib.Core.Path.{_≡_, refl, sym, ap, _∙_}
 use mathlib.Core.Bool.{Bool, true, false, _&&_, _||_, not, cond}
 use mathlib.Core.List.{List, [], _∷_, _++_, map}
-use Prim.Native.Nat.{ℕ, zero, suc, _+_, max}
+use Prim.Native.Nat.{ℕ, zero, suc, _+_}
 use native.Mathlib.Omega.{arith}
-use lib.Dec.{eqb, leb, ltb}
-use lib.ListN.{length, getD, replicate}
+use lib.Dec.{eqb, ltb}
+use lib.ListN.{length, getD}
 use Rattle.std.specs.declared.option.Option.{Option}
 use Rattle.std.specs.declared.option.Option.the-variants.{Some, None}
 use Rattle.std.specs.declared.result.Result.{Result}
 use Rattle.std.specs.declared.result.Result.the-variants.{Ok, Err}
 use Rattle.std.specs.shelf.Text.{sameBytes}
-use Rattle.std.proofs.shelf.Tests.{false≢true, true≢false, not-true, not-false, and-left, and-parts, or-parts, eqb-true}
+use Rattle.std.proofs.shelf.Tests.{false≢true, not-true, or-parts, eqb-true}
 use Rattle.std.proofs.shelf.Ways.{tells}
 use Rattle.refusal.specs.declared.Refusal.the-variants.{WrongArgument, AddressTaken, NoRoom, NoSuchAddress, UnsoundValue}
 use Rattle.dictionary.specs.Addresses.{Address}
 use Rattle.request.specs.Askings.{Asking, Rejected}
-use Rattle.model.specs.Values.{Sets, Book, Session, Opening, Call, Arrive, Set, Leave, Clock, Ask, Take, Settle, Tell, Reply, Done, Line, outcome, refused, lives-at, in-view, value, fresh, with-value, some, entries, holds}
-use Rattle.model.specs.Places.{placed, altered, has-room}
-use Rattle.model.specs.Ledger.{Ledger, blank, entered, ledger-from, struck, shows, left-from, left, is-own, own}
-use Rattle.model.specs.Steps.{Af, State, new-af, opened, accepts, number-of, in-use, wrong-address, wrong-name, wrong-set, wrong-field, long-value, unsound-value, arrive-refusals, set-refusals, leave-refusals, at-address-only, sessions-after, now-after, af-after, af-asked, af-left, is-change, alters, change-due, notified, due-notice, and-then, heard, judged-asking, ask-verdict, is-subscription, recorded, subs-after, about, fitting, answered, reply-to, reply, each, after}
+use Rattle.model.specs.Values.{Sets, Book, Session, Opening, Call, Arrive, Set, Leave, Clock, Ask, Take, Settle, Tell, Reply, Line, outcome, refused, lives-at, in-view, value, fresh, with-value, some, entries, holds}
+use Rattle.model.specs.Places.{placed, altered}
+use Rattle.model.specs.Ledger.{Ledger, blank, entered, struck, shows, left-from, left, is-own, own}
+use Rattle.model.specs.Steps.{Af, State, new-af, opened, accepts, in-use, wrong-address, wrong-name, wrong-set, wrong-field, long-value, unsound-value, arrive-refusals, set-refusals, leave-refusals, at-address-only, sessions-after, now-after, af-after, af-asked, af-left, is-change, alters, notified, due-notice, and-then, heard, ask-verdict, is-subscription, recorded, subs-after, answered, reply-to, reply, each, after}
 use Rattle.model.specs.Histories.{Leads, begun, next, Lived, transcript, Isolation}
 use Rattle.model.proofs.Veil.{by, veiled, veil, seen-test, some-veil, in-use-veil, room-veil, placed-veil, altered-veil, set-one, leave-one, set-hidden, veil-twice}
 use Rattle.model.proofs.Shown.{judged-veil, about-veil, answered-veil}

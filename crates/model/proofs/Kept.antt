@@ -1,19 +1,19 @@
 -- Laws of single calls.
-use mathlib.Core.Path.{_≡_, refl, sym, ap, _∙_, subst}
-use mathlib.Core.Bool.{Bool, true, false, _&&_, not, cond}
+use mathlib.Core.Path.{_≡_, refl, sym, ap, _∙_}
+use mathlib.Core.Bool.{Bool, true, false, _&&_, cond}
 use mathlib.Core.List.{List, [], _∷_}
-use Prim.Native.Nat.{ℕ, zero, suc}
+use Prim.Native.Nat.{ℕ, suc}
 use lib.Dec.{eqb}
 use lib.ListN.{getD}
 use Rattle.std.specs.Options.{isSome}
 use Rattle.std.specs.declared.option.Option.{Option}
 use Rattle.std.specs.declared.result.Result.{Result}
 use Rattle.std.specs.declared.result.Result.the-variants.{Ok, Err}
-use Rattle.std.proofs.shelf.Tests.{false≢true, true≢false, not-true}
+use Rattle.std.proofs.shelf.Tests.{false≢true, not-true}
 use Rattle.refusal.specs.declared.Refusal.the-variants.{UnknownAf, ShortBuffer, NoticeOut, NothingWaiting}
 use Rattle.request.specs.Askings.{Asking, Rejected}
-use Rattle.model.specs.Values.{Sets, Book, Session, Opening, Call, Arrive, Set, Leave, Clock, Ask, Take, Settle, Tell, Reply, Done, Taken, refused, fresh}
-use Rattle.model.specs.Steps.{Af, State, new-af, accepts, number-of, arrive-refusals, set-refusals, leave-refusals, take-refusals, settle-refusals, off-sheet, short-buffer, is-empty, sessions-after, now-after, af-after, af-asked, af-left, change-due, notified, due-notice, handed, settled, ask-verdict, answered, oldest-bytes, each, after, reply}
+use Rattle.model.specs.Values.{Sets, Book, Session, Opening, Call, Arrive, Set, Leave, Clock, Ask, Take, Settle, Tell, Done, Taken, refused}
+use Rattle.model.specs.Steps.{Af, State, new-af, accepts, number-of, arrive-refusals, set-refusals, leave-refusals, take-refusals, settle-refusals, off-sheet, short-buffer, is-empty, sessions-after, now-after, af-after, af-asked, af-left, change-due, notified, due-notice, handed, settled, ask-verdict, answered, oldest-bytes, each, reply}
 use Rattle.model.specs.Laws.{Refused-keeps, Nothing-waiting}
 use Rattle.model.proofs.Veil.{by}
 use Rattle.model.proofs.Isolated.{reply-own}

@@ -1,17 +1,16 @@
 -- Only the calls that are left: alike.
-use mathlib.Core.Path.{_≡_, refl, sym, ap, _∙_, subst}
-use mathlib.Core.Bool.{Bool, true, false, _&&_, not, cond}
+use mathlib.Core.Path.{_≡_, refl, sym, ap, _∙_}
+use mathlib.Core.Bool.{Bool, false, not, cond}
 use mathlib.Core.List.{List, [], _∷_, map}
 use Prim.Native.Nat.{ℕ}
-use lib.Dec.{eqb, ltb}
+use lib.Dec.{ltb}
 use lib.ListN.{length}
-use Rattle.std.specs.declared.option.Option.{Option}
-use Rattle.model.specs.Values.{Sets, Book, Session, Opening, Call, Arrive, Set, Leave, Clock, Ask, Take, Settle, Tell, outcome, refused, some, entries}
+use Rattle.model.specs.Values.{Book, Opening, Call, Arrive, Set, Leave, Clock, Ask, Take, Settle, Tell, outcome, refused, some, entries}
 use Rattle.model.specs.Ledger.{Ledger, blank, entered, struck, shows, left-from}
 use Rattle.model.specs.Steps.{State, opened, af-after, after, reply}
 use Rattle.model.specs.Histories.{transcript}
 use Rattle.model.specs.Guards.{Left-alike}
-use Rattle.model.proofs.Veil.{by, veil, some-veil}
+use Rattle.model.proofs.Veil.{by, some-veil}
 use Rattle.model.proofs.Agrees.{Same-entries, some-agrees, agrees-after, none-yet}
 use Rattle.model.proofs.Isolated.{Side, side, side-after, side-still, side-on, length-each}
 

@@ -1,36 +1,35 @@
 -- What an AF is answered does not hang on what lies outside its view.
-use mathlib.Core.Path.{_≡_, refl, sym, ap, _∙_, subst}
-use mathlib.Core.Bool.{Bool, true, false, _&&_, _||_, not, cond}
+use mathlib.Core.Path.{_≡_, refl, sym, ap, _∙_}
+use mathlib.Core.Bool.{Bool, true, false, _&&_, not, cond}
 use mathlib.Core.List.{List, [], _∷_, _++_, map}
 use Prim.Native.Nat.{ℕ, zero, suc, _+_, _*_, _/_, _%_, _^_, _<_, _≤_}
 use native.Mathlib.Omega.{arith}
 use lib.Count.{ones}
-use lib.Dec.{eqb, leb, ltb}
-use lib.ListN.{length, getD}
+use lib.Dec.{eqb, leb}
+use lib.ListN.{length}
 use Rattle.std.specs.declared.option.Option.{Option}
 use Rattle.std.specs.declared.option.Option.the-variants.{Some, None}
 use Rattle.std.specs.declared.result.Result.{Result}
 use Rattle.std.specs.declared.result.Result.the-variants.{Ok, Err}
-use Rattle.std.proofs.shelf.Tests.{false≢true, true≢false, and-parts, eqb-true, eq-eqb, ltb-true}
-use Rattle.refusal.specs.declared.Refusal.{Refusal}
+use Rattle.std.proofs.shelf.Tests.{false≢true, and-parts, eq-eqb}
 use Rattle.refusal.specs.declared.Refusal.the-variants.{AmbiguousUser, NoSession, NothingToShow, NoPlace}
 use Rattle.refusal.specs.declared.ResultCode.the-variants.{Base}
 use Rattle.diameter.specs.Headers.{header-of}
 use Rattle.fieldset.specs.Sets.{has, members}
 use Rattle.fieldset.proofs.Laws.{bit-step}
-use Rattle.request.specs.Askings.{Subject, at-address, of-user, Asking, Fault, nothing, Rejected}
+use Rattle.request.specs.Askings.{Subject, at-address, of-user, Asking, nothing, Rejected}
 use Rattle.request.specs.declared.asking.Asked.{Asked}
 use Rattle.request.specs.declared.asking.Asked.the-variants.{UserData, Subscribe, Unsubscribe}
 use Rattle.writer.specs.Headers.{message-header}
-use Rattle.writer.specs.Parts.{Part, parts-bytes}
-use Rattle.answer.specs.Answers.{bare, showing, answer-bytes, answer-front, answer-flags}
+use Rattle.writer.specs.Parts.{parts-bytes}
+use Rattle.answer.specs.Answers.{answer-bytes, answer-front, answer-flags}
 use Rattle.answer.specs.Faults.{failed-avp}
 use Rattle.message.specs.Fields.{field-part, field-parts}
 use Rattle.model.specs.Values.{Sets, Session, Opening, Reply, Answered, value, in-view}
-use Rattle.model.specs.Steps.{Af, those, requested, shown, is-empty, is-stored, nothing-to-show, no-place, ambiguous, about, fitting, no-session, subject-refusals, judged-asking, plainly, session-of, success-bytes, shown-to, answered}
+use Rattle.model.specs.Steps.{Af, those, requested, shown, is-empty, is-stored, nothing-to-show, no-place, ambiguous, about, fitting, subject-refusals, judged-asking, plainly, session-of, success-bytes, shown-to, answered}
 use Rattle.refusal.specs.Verdicts.{judged}
 use Rattle.model.specs.Laws.{Shown-exactly}
-use Rattle.model.proofs.Veil.{by, veiled, veil, value-veiled, seen-test, fitting-veil}
+use Rattle.model.proofs.Veil.{veiled, veil, value-veiled, seen-test, fitting-veil}
 
 -- ---- sets
 

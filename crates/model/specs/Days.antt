@@ -19,7 +19,7 @@ use Rattle.writer.specs.Avps.{avp}
 use Rattle.writer.specs.Headers.{message-header}
 use Rattle.message.specs.Messages.{application-avp}
 use Rattle.notification.specs.Notifications.{address-data}
-use Rattle.model.specs.Values.{Book, Sets, Opening, Call, Arrive, Set, Leave, Clock, Ask, Take, Settle, Tell, Reply, Done, Answered, Taken, Counts, Line}
+use Rattle.model.specs.Values.{Book, Opening, Call, Arrive, Set, Clock, Ask, Take, Settle, Tell, Reply, Done, Answered, Taken, Counts, Line}
 use Rattle.model.specs.Steps.{opened}
 use Rattle.model.specs.Histories.{transcript}
 

@@ -16,8 +16,7 @@ use mathlib.Core.List.{List, [], _∷_, map}
 use Prim.Native.Nat.{ℕ, zero, suc}
 use lib.ListN.{getD, replicate}
 use Rattle.std.specs.Options.{isSome}
-use Rattle.std.specs.declared.option.Option.{Option}
-use Rattle.std.specs.declared.option.Option.the-variants.{Some, None}
+use Rattle.std.specs.declared.option.Option.the-variants.{Some}
 use Rattle.model.specs.Values.{Book, Opening, Call, Arrive, Set, Ask, Take, Settle, Tell, Reply, Done, Answered, Taken, Counts, Line, outcome}
 use Rattle.model.specs.Places.{free-place}
 use Rattle.model.specs.Ledger.{left, own}

@@ -9,7 +9,7 @@
 --     struck r a l c rest   the call c is none of a's business: left out, a is to notice nothing (`rest` is what comes after c; it does not count today)
 --     left r a cs           the calls once those struck for a are left out
 --     is-own, own           a call is one of a's; the replies to these, in turn
-use mathlib.Core.Bool.{Bool, true, false, _&&_, not, cond}
+use mathlib.Core.Bool.{Bool, false, _&&_, not, cond}
 use mathlib.Core.List.{List, [], _∷_, _++_}
 use Prim.Native.Nat.{ℕ, _+_, _^_, max}
 use lib.Dec.{eqb, leb, ltb}
@@ -21,7 +21,7 @@ use Rattle.diameter.specs.Headers.{body}
 use Rattle.diameter.specs.Lists.{avps}
 use Rattle.dictionary.specs.Addresses.{Address}
 use Rattle.e2.specs.Checks.{command-of}
-use Rattle.fieldset.specs.Sets.{has, minus}
+use Rattle.fieldset.specs.Sets.{minus}
 use Rattle.request.specs.Askings.{Subject, at-address, of-user, Asking}
 use Rattle.request.specs.Readings.{asking}
 use Rattle.request.specs.declared.asking.Asked.{Asked}

@@ -3,10 +3,10 @@
 --     Untold           of two transcripts that are alike for a, the replies to a are the same: number by number and byte by byte
 --     Balanced R n ls  whenever an AF of the n on the sheet asks for its counts, they are those of its ledger, and sum up to what fell due
 use mathlib.Core.Path.{_≡_}
-use mathlib.Core.List.{List, [], _∷_, _++_, map}
+use mathlib.Core.List.{List, _∷_, _++_, map}
 use Prim.Native.Nat.{ℕ, _+_, _^_, _<_}
 use lib.ListN.{length}
-use Rattle.model.specs.Values.{Sets, Book, Opening, Call, Tell, Reply, Counts, Line, outcome}
+use Rattle.model.specs.Values.{Sets, Book, Opening, Tell, Reply, Counts, Line, outcome}
 use Rattle.model.specs.Ledger.{Ledger, ledger, left, own}
 
 pub record Alike (a : ℕ) (o p : Opening) (r q : Sets) (ls ms : List Line) : Type 0 where

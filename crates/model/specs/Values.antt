@@ -17,7 +17,7 @@
 --     lapsed now s         the subscription has come to its end
 --     some p xs            some entry passes the test
 --     entries ps           the entries of a list of places, in the order of the places
-use mathlib.Core.Bool.{Bool, true, false, _&&_, _||_, not, cond}
+use mathlib.Core.Bool.{Bool, false, _&&_, _||_, not}
 use mathlib.Core.List.{List, [], _∷_}
 use Prim.Native.Nat.{ℕ}
 use lib.Dec.{eqb, leb}

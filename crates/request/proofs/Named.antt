@@ -1,11 +1,10 @@
 -- The known AVPs: their names, their places in the dictionary, and sets of them.
-use mathlib.Core.Path.{_≡_, refl, sym, ap, subst, _∙_}
+use mathlib.Core.Path.{_≡_, refl, ap, subst, _∙_}
 use mathlib.Core.Bool.{Bool, true, false, cond, _&&_, _||_}
 use mathlib.Core.Logic.{⊎-elim}
 use mathlib.Core.List.{List}
 use Prim.Native.Nat.{ℕ, suc, _+_, _-_, _/_, _%_, _^_, _<_}
 use native.Mathlib.Omega.{arith}
-use lib.Bits.{bitOr}
 use lib.Dec.{eqb, ltb}
 use lib.Pow.{pow-add}
 use borrow.Author.Tests.{ltb-true, ltb-false}
@@ -16,14 +15,12 @@ use Rattle.std.specs.declared.option.Option.{Option}
 use Rattle.std.specs.declared.option.Option.the-variants.{Some, None}
 use Rattle.fieldset.specs.Sets.{has}
 use Rattle.fieldset.proofs.Laws.{has-or}
-use Rattle.diameter.specs.Lists.{Avp, named}
-use Rattle.dictionary.specs.Names.{known, of-base, of-etsi, of-3gpp, code, vendor, index}
+use Rattle.dictionary.specs.Names.{known, code, vendor, index}
 use Rattle.dictionary.specs.Forms.{form, formed, fits}
 use Rattle.dictionary.specs.declared.known.Known.{Known}
 use Rattle.dictionary.specs.declared.known.Known.the-variants.{UserName, FramedIpAddress, VendorSpecificApplicationId, SessionId, OriginHost, AuthSessionState, RouteRecord, DestinationRealm, ProxyInfo, DestinationHost, OriginRealm, GloballyUniqueAddress, AddressRealm, RequestedInformation, EventType, AfApplicationIdentifier, SubsReqType, ExpiryTime}
-use Rattle.dictionary.specs.declared.form.Form.{Form}
 use Rattle.dictionary.specs.declared.form.Form.the-variants.{Right, Wrong}
-use Rattle.request.specs.Faults.{kind, is, also}
+use Rattle.request.specs.Faults.{also}
 use Rattle.request.specs.Scans.{form-kind, seen-by}
 
 chosen-kind : (b : Bool) (k : Known) → form-kind (cond b (Right k) (Wrong k)) ≡ Some k

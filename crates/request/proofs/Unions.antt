@@ -1,10 +1,9 @@
 -- The union of the numbers that AVPs carry, one AVP at a time, and what its members are.
-use mathlib.Core.Path.{_≡_, refl, sym, ap, _∙_}
+use mathlib.Core.Path.{_≡_, refl, ap, _∙_}
 use mathlib.Core.Bool.{Bool, true, false, cond, _&&_, _||_}
 use mathlib.Core.List.{List, [], _∷_}
-use Prim.Native.Nat.{ℕ, _^_}
+use Prim.Native.Nat.{ℕ}
 use lib.Bits.{bitOr}
-use lib.Dec.{eqb}
 use Rattle.std.specs.declared.option.Option.{Option}
 use Rattle.std.specs.declared.option.Option.the-variants.{Some, None}
 use Rattle.fieldset.specs.Sets.{has}
@@ -13,7 +12,7 @@ use Rattle.diameter.specs.Lists.{Avp}
 use Rattle.dictionary.specs.Numbers.{word}
 use Rattle.request.specs.Faults.{is}
 use Rattle.request.specs.Readings.{union, adds, bit-of, meaning, carrier}
-use Rattle.request.specs.Laws.{carries, carried-by-some, means}
+use Rattle.request.specs.Laws.{carried-by-some, means}
 use Rattle.request.specs.declared.number.Numbers.{Numbers}
 use Rattle.request.proofs.Named.{has-power, has-nothing, or-assoc, or-false}
 

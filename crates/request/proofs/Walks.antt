@@ -3,9 +3,6 @@ use mathlib.Core.Path.{_≡_, refl, sym, ap, _∙_}
 use mathlib.Core.Bool.{Bool, true, false, cond, _&&_, _||_, not}
 use mathlib.Core.List.{List, [], _∷_, _++_}
 use Prim.Native.Nat.{ℕ}
-use native.Mathlib.Omega.{arith}
-use lib.Dec.{eqb}
-use Rattle.std.proofs.shelf.Ways.{tells}
 use Rattle.std.specs.Options.{isSome}
 use Rattle.std.specs.declared.option.Option.{Option}
 use Rattle.std.specs.declared.option.Option.the-variants.{Some, None}
@@ -14,7 +11,7 @@ use Rattle.diameter.specs.Lists.{Avp, first-such}
 use Rattle.dictionary.specs.Names.{repeats, index}
 use Rattle.dictionary.specs.Forms.{form}
 use Rattle.dictionary.specs.declared.known.Known.{Known}
-use Rattle.request.specs.Faults.{kind, is, there, parts, with-parts, unsupported, stranger, also, again, repeated, wrong, is-wrong, misfit}
+use Rattle.request.specs.Faults.{kind, is, there, parts, with-parts, unsupported, stranger, also, again, repeated, wrong, misfit}
 use Rattle.request.specs.Scans.{Found, Scans, or-else, stranger-by, repeat-by, misfit-by, seen-by, noted, scanned, nothing-found, found-of}
 use Rattle.request.specs.declared.scan.Scan.{Scan}
 use Rattle.request.proofs.Named.{seen-also, has-nothing, same-kind, is-kind, or-assoc, or-false}

@@ -3,11 +3,11 @@
 --     asking command l              what the AVPs ask, where none of these finds anything
 --     session-id m                  the Session-Id of m, where its AVPs are sound and begin with a right one
 --     reading m name now            what the message m of the application function `name` says at the time now
-use mathlib.Core.Bool.{Bool, false, cond, _&&_}
+use mathlib.Core.Bool.{false, cond, _&&_}
 use mathlib.Core.List.{List, [], _∷_}
 use Prim.Native.Nat.{ℕ, _^_}
 use lib.Bits.{bitOr}
-use Rattle.std.specs.Options.{isSome, mapped}
+use Rattle.std.specs.Options.{mapped}
 use Rattle.std.specs.declared.option.Option.{Option}
 use Rattle.std.specs.declared.option.Option.the-variants.{Some, None}
 use Rattle.std.specs.declared.result.Result.{Result}

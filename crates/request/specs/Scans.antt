@@ -5,7 +5,7 @@
 --     found-of s         what the code's record means
 --     Scans after l s    what a whole walk finds, in the words of the faults
 use mathlib.Core.Path.{_≡_}
-use mathlib.Core.Bool.{Bool, false, cond, _&&_, not}
+use mathlib.Core.Bool.{false, cond, _&&_, not}
 use mathlib.Core.List.{List, [], _∷_}
 use Prim.Native.Nat.{ℕ, _^_}
 use lib.Bits.{bitOr}

@@ -7,7 +7,6 @@ ghost use Rattle.diameter.specs.Lists.{avps, first-such};
 ghost use Rattle.diameter.specs.Views.{found};
 ghost use Rattle.dictionary.specs.Addresses.{address-in};
 ghost use Rattle.request.specs.Faults.{is, first, is-session, lacking, needed-by, missing-by, subscribes, deadline, foreign};
-ghost use Rattle.request.specs.Scans.{Scans};
 ghost use Rattle.fieldset.specs.Sets.{has};
 ghost use Rattle.dictionary.specs.Names.{index};
 ghost use Rattle.request.specs.Askings.{subject-of, rejected-found, asking-of, reading-of};

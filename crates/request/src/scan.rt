@@ -1,7 +1,6 @@
 //! One walk over the AVPs of a request, which notes what can be wrong with them.
 ghost use mathlib.Core.Path.{_≡_};
-ghost use mathlib.Core.Bool.{_&&_, not};
-ghost use Rattle.std.specs.Options.{isSome};
+ghost use mathlib.Core.Bool.{_&&_};
 ghost use Rattle.fieldset.specs.Sets.{has};
 ghost use Rattle.diameter.specs.Lists.{avps};
 ghost use Rattle.diameter.specs.Views.{avp-of, found};

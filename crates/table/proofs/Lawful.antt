@@ -2,7 +2,7 @@
 use mathlib.Core.Path.{_≡_, refl, sym, ap, subst, _∙_}
 use mathlib.Core.List.{List, [], _∷_}
 use mathlib.Core.Bool.{Bool, true, false, cond, _&&_}
-use mathlib.Core.Logic.{_⊎_, inl, inr}
+use mathlib.Core.Logic.{inl, inr}
 use Prim.Native.Nat.{ℕ, _+_, _<_, _≤_, zero, suc}
 use native.Mathlib.Omega.{arith}
 use lib.Dec.{ltb}
@@ -12,13 +12,13 @@ use Rattle.std.specs.declared.option.Option.the-variants.{Some, None}
 use Rattle.std.specs.Options.{isSome, mapped}
 use Rattle.std.specs.shelf.Text.{sameBytes}
 use Rattle.std.proofs.shelf.Tests.{cases-bool, cases-lt, both-ways, and-parts, and-from, cond-true, cond-false, lt-ltb, le-ltb}
-use Rattle.table.specs.Tables.{holds, holder, at, distinct, Distinct, number, room}
+use Rattle.table.specs.Tables.{holds, holder, at, Distinct, number, room}
 use Rattle.table.specs.Choices.{choice, choice-from}
-use Rattle.table.specs.Steps.{counted, Updated}
+use Rattle.table.specs.Steps.{counted}
 use Rattle.table.specs.Laws.{Choice-laws, Room-counted, Told-here, Told-elsewhere, Freed-serves, Apart, Distinct-means, Number-of-map, Empty-table}
 use Rattle.table.proofs.Keys.{same-true, same-refl, same-from}
 use Rattle.table.proofs.Places.{some-mapped}
-use Rattle.table.proofs.Maps.{held-known, distinct-head, distinct-tail, none-from}
+use Rattle.table.proofs.Maps.{held-known, distinct-head, distinct-tail}
 
 module _ {P : Type 0} (taken : P → Bool) where
   chosen-there : (n : ℕ) (ps : List P) → isSome (choice-from taken n ps) ≡ room taken ps

@@ -1,18 +1,18 @@
 -- A change of every place, which frees it or keeps it taken under its key.
 use mathlib.Core.Path.{_≡_, refl, sym, ap, subst, _∙_}
 use mathlib.Core.List.{List, [], _∷_, map as each}
-use mathlib.Core.Bool.{Bool, true, false, cond, _&&_}
+use mathlib.Core.Bool.{Bool, true, false, cond}
 use mathlib.Core.Logic.{inl, inr}
-use Prim.Native.Nat.{ℕ, _+_, _≤_}
+use Prim.Native.Nat.{ℕ, _≤_}
 use native.Mathlib.Omega.{arith}
 use Rattle.std.specs.declared.option.Option.{Option}
 use Rattle.std.specs.declared.option.Option.the-variants.{Some, None}
 use Rattle.std.specs.Options.{isSome, mapped}
 use Rattle.std.specs.shelf.Text.{sameBytes}
-use Rattle.std.proofs.shelf.Tests.{cases-bool, both-ways, and-parts, and-from, cond-true, cond-false}
-use Rattle.table.specs.Tables.{holds, holder, at, content, distinct, Distinct, number}
+use Rattle.std.proofs.shelf.Tests.{cases-bool, both-ways, and-parts, and-from}
+use Rattle.table.specs.Tables.{holds, holder, Distinct, number}
 use Rattle.table.specs.Steps.{changed-content}
-use Rattle.table.specs.Laws.{Swept, Swept-told}
+use Rattle.table.specs.Laws.{Swept-told}
 use Rattle.table.proofs.Keys.{same-true, same-from}
 use Rattle.table.proofs.Maps.{none-from, distinct-head, distinct-tail, alone-after}
 

@@ -1,7 +1,6 @@
 //! Two kinds of places, with all that each owes.
 ghost use mathlib.Core.Path.{_≡_};
-ghost use mathlib.Core.Bool.{Bool, true, false, cond};
-ghost use mathlib.Core.List.{List};
+ghost use mathlib.Core.Bool.{true, false, cond};
 ghost use Prim.Native.Nat.{ℕ, min};
 ghost use lib.Dec.{eqb};
 ghost use lib.ListN.{take};

@@ -1,5 +1,4 @@
 use mathlib.Core.Path.{_≡_}
-use mathlib.Core.List.{_++_}
 use Prim.Native.Nat.{_+_}
 use lib.ListN.{length, take, drop}
 use Rattle.std.specs.Of.Vec.{vec-items}

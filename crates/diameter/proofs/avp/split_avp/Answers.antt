@@ -1,7 +1,7 @@
 use mathlib.Core.Path.{_≡_, _∙_}
 use Prim.Native.Nat.{_-_}
 use native.Mathlib.Omega.{arith}
-use lib.ListN.{length, take, drop, length-take, length-drop}
+use lib.ListN.{take, drop, length-take, length-drop}
 use Rattle.std.proofs.shelf.Lists.{take-rest}
 use Rattle.diameter.specs.Avps.{step}
 use Rattle.diameter.proofs.avp.split_avp.Needs as need

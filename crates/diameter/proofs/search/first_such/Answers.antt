@@ -1,4 +1,4 @@
-use mathlib.Core.Path.{_≡_, ap, sym, _∙_}
+use mathlib.Core.Path.{ap, sym, _∙_}
 use Rattle.diameter.specs.Lists.{first-such}
 use Rattle.diameter.proofs.Turns.{first-hit, first-miss, avps-stop}
 use Rattle.diameter.proofs.search.first_such.Needs as need

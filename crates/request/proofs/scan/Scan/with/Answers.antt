@@ -1,7 +1,6 @@
 use mathlib.Core.Path.{_≡_, ap, _∙_}
 use Rattle.diameter.specs.Views.{avp-of, found}
 use Rattle.dictionary.specs.Names.{known}
-use Rattle.dictionary.specs.Forms.{form}
 use Rattle.dictionary.specs.declared.form.Form.{Form}
 use Rattle.request.specs.Scans.{form-kind, or-else, stranger-by, repeat-by, misfit-by, seen-by}
 use Rattle.request.proofs.Named.{form-kind-is}
