@@ -3,7 +3,7 @@
 --     judged line    what is said of it
 use Rattle.std.specs.Prelude.{ℕ, Bool, true, false, cond, ◌||◌, List, [], ◌∷◌, length, Some, None, Ok, Err, Option, Result, ◌==◌}
 use Rattle.refusal.specs.declared.Refusal.{Refusal}
-use Rattle.hex.specs.Spelling.{spelled}
+use Rattle.hexadecimal.specs.Spelling.{spelled}
 use Rattle.request.specs.Askings.{Asking, Rejected}
 use Rattle.e2.specs.Checks.{checked}
 use Rattle.e2.specs.declared.Command.{Command}

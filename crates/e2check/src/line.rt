@@ -4,7 +4,7 @@ ghost use Rattle.request.specs.Askings.{reading_of};
 ghost use Rattle.e2check.specs.Lines.{content, judged, has_message, read_further};
 
 use e2::{Command, check};
-use hex::{DecodeError, decode};
+use hexadecimal::{DecodeError, decode};
 use refusal::Refusal;
 use request::asking::{Rejection, Request};
 use std::alloc::AllocError;

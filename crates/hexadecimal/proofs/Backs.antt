@@ -1,8 +1,8 @@
 -- Bytes written in digits are read back.
 use Rattle.std.proofs.Common.{◌≡◌, ℕ, suc, ◌+◌, ◌*◌, ◌/◌, ◌%◌, ◌<◌, false, cond, List, [], ◌∷◌, get_or, Some, None, Option, refl, ap, ◌∙◌, arith}
 use Rattle.std.proofs.lemmas.Bool.Decides.{nat_tests}
-use Rattle.hex.specs.Spelling.{digit, blank, after, completed, waiting, by_digit, spelled}
-use Rattle.hex.specs.Laws.{upper, lower, written, ReadBack}
+use Rattle.hexadecimal.specs.Spelling.{digit, blank, after, completed, waiting, by_digit, spelled}
+use Rattle.hexadecimal.specs.Laws.{upper, lower, written, ReadBack}
 
 -- a way to write digits that is read back digit by digit
 pub record Digits (f : ℕ → ℕ) : Type 0 where

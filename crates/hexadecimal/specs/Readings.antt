@@ -2,9 +2,9 @@
 --     Decodes text before after r   the bytes that the text spells are appended, and r says where it goes wrong, if anywhere; where
 --                                   there is no memory for all of them, what was there before stays and r says so
 use Rattle.std.specs.Prelude.{◌≡◌, ℕ, List, ◌++◌, length, take, Some, None, Ok, Err, Result}
-use Rattle.hex.specs.declared.DecodeError.{DecodeError}
-use Rattle.hex.specs.declared.DecodeError.TheVariants.{NotHex, NoMemory}
-use Rattle.hex.specs.Spelling.{spelled}
+use Rattle.hexadecimal.specs.declared.DecodeError.{DecodeError}
+use Rattle.hexadecimal.specs.declared.DecodeError.TheVariants.{NotHex, NoMemory}
+use Rattle.hexadecimal.specs.Spelling.{spelled}
 
 abbrev pub Decodes : List ℕ → List ℕ → List ℕ → Result (Unit {0}) DecodeError → Type 0
 Decodes text before after (Ok _) = (after ≡ before ++ (spelled 1 None text).bytes) × ((spelled 1 None text).fault ≡ None)

@@ -2,7 +2,7 @@
 use Rattle.std.proofs.Common.{◌≡◌, ℕ, ◌+◌, ◌<◌, ◌≤◌, true, false, cond, List, [], ◌∷◌, ◌++◌, length, get_or, take, drop, Some, None, Option, sym, ap, ◌∙◌, append_assoc, arith, length-take}
 use Rattle.std.proofs.lemmas.List.{drop_more, drop_all, take_append_le}
 use Rattle.std.proofs.lemmas.Bool.Decides.{nat_tests}
-use Rattle.hex.specs.Spelling.{Spelled, digit, blank, after, completed, waiting, ended, by_digit, spelled}
+use Rattle.hexadecimal.specs.Spelling.{Spelled, digit, blank, after, completed, waiting, ended, by_digit, spelled}
 
 -- a digit that waits is a digit
 abbrev pub Small : Option ℕ → Type 0

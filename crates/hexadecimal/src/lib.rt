@@ -1,8 +1,8 @@
 //! Hexadecimal text, read into bytes.
 ghost use Rattle.std.specs.Prelude.{◌≡◌};
-ghost use Rattle.hex.specs.Spelling.{digit, blank};
-ghost use Rattle.hex.specs.Readings.{Decodes};
-ghost use Rattle.hex.specs.Laws.{ReadBack};
+ghost use Rattle.hexadecimal.specs.Spelling.{digit, blank};
+ghost use Rattle.hexadecimal.specs.Readings.{Decodes};
+ghost use Rattle.hexadecimal.specs.Laws.{ReadBack};
 
 /// Why a text is not read to its end.
 #[derive(Clone, Copy, PartialEq, Eq, Debug)]

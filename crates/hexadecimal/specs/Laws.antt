@@ -2,7 +2,7 @@
 --     upper n, lower n    the digit of n
 --     written digit bs    the bytes bs, two digits each
 use Rattle.std.specs.Prelude.{◌≡◌, ℕ, ◌+◌, ◌/◌, ◌%◌, ◌<◌, cond, List, [], ◌∷◌, None, nat_lt, slice_index}
-use Rattle.hex.specs.Spelling.{spelled}
+use Rattle.hexadecimal.specs.Spelling.{spelled}
 
 abbrev pub upper : ℕ → ℕ
 upper n = cond (nat_lt n 10) (n + 0x30) (n + 0x37)

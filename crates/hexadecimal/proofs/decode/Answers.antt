@@ -1,9 +1,9 @@
 use Rattle.std.proofs.Common.{◌≡◌, ℕ, ◌+◌, ◌*◌, ◌<◌, ◌≤◌, Bool, cond, List, [], ◌∷◌, ◌++◌, length, get_or, take, drop, Some, None, vec_items, Option, sym, refl, ap, ◌∙◌, subst, append-nil, arith}
 use Rattle.std.proofs.lemmas.List.{take_all}
-use Rattle.hex.specs.Spelling.{Spelled, spelled, after, completed, waiting, ended}
-use Rattle.hex.proofs.Turns.{Small, begins_still, digit_read, digit_small, spelled_blank, spelled_fault, spelled_end}
-use Rattle.hex.proofs.decode.Goals as goal
-use Rattle.hex.proofs.decode.Goals.{in-None, in-Some-high+else-is-err}
+use Rattle.hexadecimal.specs.Spelling.{Spelled, spelled, after, completed, waiting, ended}
+use Rattle.hexadecimal.proofs.Turns.{Small, begins_still, digit_read, digit_small, spelled_blank, spelled_fault, spelled_end}
+use Rattle.hexadecimal.proofs.decode.Goals as goal
+use Rattle.hexadecimal.proofs.decode.Goals.{in-None, in-Some-high+else-is-err}
 
 pub loop-i-init : goal.loop-i-init
 loop-i-init c = (refl, take_all _ (vec_items c.args.out.now) (omega arith), tt)

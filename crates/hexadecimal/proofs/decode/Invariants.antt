@@ -1,7 +1,7 @@
 use Rattle.std.proofs.Common.{◌≡◌, ◌+◌, length, take, drop, None, vec_items}
-use Rattle.hex.specs.Spelling.{spelled, after}
-use Rattle.hex.proofs.Turns.{Small}
-use Rattle.hex.proofs.decode.Given as goal
+use Rattle.hexadecimal.specs.Spelling.{spelled, after}
+use Rattle.hexadecimal.proofs.Turns.{Small}
+use Rattle.hexadecimal.proofs.decode.Given as goal
 
 -- what is appended, and what the rest of the text spells after it, is what the whole text spells
 abbrev pub invariant-loop-i : goal.invariant-loop-i
