@@ -10,7 +10,9 @@ import re
 import sys
 
 NAME = r"[A-Za-zℕ0-9_'+*≤≡∈\-]+"
-HEAD = re.compile(rf"^\s*(?:\| )?(?:(?:abbrev|unfoldable|pub|record|data|inductive) )*({NAME}) (?::|\{{|\()", re.M)
+HEAD = re.compile(rf"^\s*(?:\| )?(?:(?:abbrev|unfoldable|pub) )*({NAME}) :", re.M)
+KIND = re.compile(rf"^\s*(?:pub )?(?:record|data|inductive) ({NAME})", re.M)
+FROM_LIBRARY = re.compile(r"^(?:ghost )?use (?:Rattle\.std|mathlib|lib|Prim|native|borrow)\.[^{]*\{([^}]*)\}", re.M)
 LOCAL = re.compile(rf"\blet ({NAME}) [:=]")
 BOUND = re.compile(rf"[({{]((?:{NAME} )+):")
 LAMBDA = re.compile(rf"λ ((?:{NAME} )*{NAME})\.")
@@ -18,7 +20,7 @@ ALIAS = re.compile(rf"\bas ({NAME})")
 GOAL = re.compile(rf"({NAME}) : goal\.", re.M)
 
 
-# A lemma that begins with a fact of the library keeps its dash; two names would fall together with another's or are of an older word.
+# A lemma that begins with a fact of the library keeps its dash; the chosen names would else fall together with another's, or name an older word.
 KEPT = {"All-append", "All-map", "All-weaker"}
 CHOSEN = {"Nothing-waiting": "NothingIsWaiting", "getD-each": "get_or_each"}
 
@@ -38,17 +40,20 @@ def without_comments(text):
 
 def own_names(files):
     own, goals, every = set(), set(), set()
+    library = set()
     for path in files:
         if path.suffix != ".antt":
             continue
         text = without_comments(path.read_text())
         goals.update(GOAL.findall(text))
         every.update(re.findall(NAME, text))
-        found = HEAD.findall(text) + LOCAL.findall(text) + ALIAS.findall(text)
+        for names in FROM_LIBRARY.findall(text):
+            library.update(re.split(r"\s+as\s+|,\s*", names))
+        found = HEAD.findall(text) + KIND.findall(text) + LOCAL.findall(text) + ALIAS.findall(text)
         for group in BOUND.findall(text) + LAMBDA.findall(text):
             found += group.split()
         own.update(found)
-    own = {n for n in own - goals if "-" in n.strip("-") and re.match(r"[A-Za-z]", n)} - KEPT
+    own = {n for n in own - goals - library if "-" in n.strip("-") and re.match(r"[A-Za-z]", n)} - KEPT
     return own, goals, every
 
 

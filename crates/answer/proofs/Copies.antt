@@ -1,8 +1,8 @@
 -- AVPs of a request, copied.
-use Rattle.std.proofs.Common.{◌≡◌, ℕ, suc, ◌+◌, ◌-◌, ◌*◌, ◌<◌, ◌≤◌, true, cond, ◌&&◌, List, [], ◌∷◌, ◌++◌, length, get_or, take, drop, sym, ap, ◌∙◌, subst, ⊎_elim, append-nil, arith, length_append, length-drop, length-take, take-take}
+use Rattle.std.proofs.Common.{◌≡◌, ℕ, suc, ◌+◌, ◌-◌, ◌*◌, ◌<◌, ◌≤◌, true, cond, ◌&&◌, List, [], ◌∷◌, ◌++◌, length, get_or, take, drop, sym, ap, ◌∙◌, subst, ⊎_elim, append-nil, arith, length-append, length-drop, length-take, take-take}
 use lib.ListN.{length-replicate}
 use Rattle.std.specs.List.{AllByRecursion as All}
-use Rattle.std.proofs.lemmas.List.{get_or_append_left, get_or-take, take_append_le, drop-append-le, take_at, length-take-le, drop_all, drop-take, take_all}
+use Rattle.std.proofs.lemmas.List.{get_or_append_left, get_or-take, take-append-le, drop-append-le, take_at, length-take-le, drop_all, drop-take, take_all}
 use Rattle.std.proofs.ByRecursion.{All-weaker}
 use Rattle.std.proofs.lemmas.Bool.{cases_Bool, and_parts, true≢false}
 use Rattle.std.proofs.lemmas.Bool.Decides.{nat_tests}
@@ -62,7 +62,7 @@ module _ (xs : List ℕ) (there : stands xs ≡ true) where
   unfolding again
   length_again =
       let f = stands_step xs there in
-      let a = length_append (take (size xs) xs) (zeros (padding (size xs))) in
+      let a = length-append (take (size xs) xs) (zeros (padding (size xs))) in
       let t = length-take (size xs) xs in
       let z = length-replicate {A = ℕ} (padding (size xs)) 0 in
       omega arith
@@ -109,7 +109,7 @@ module _ (xs : List ℕ) (there : stands xs ≡ true) where
       let m : size xs - header xs ≤ length (drop (header xs) t) = simp length-drop (omega arith) in
       (λ i. take (s i - h i) (drop (h i) again))
       ∙ ap (take (size xs - header xs)) (drop-append-le (header xs) t (zeros (padding (size xs))) (omega arith))
-      ∙ take_append_le (size xs - header xs) (drop (header xs) t) (zeros (padding (size xs))) m
+      ∙ take-append-le (size xs - header xs) (drop (header xs) t) (zeros (padding (size xs))) m
       ∙ (let e : size xs ≡ header xs + (size xs - header xs) = omega arith in
       ap (λ (q : ℕ). take (size xs - header xs) (drop (header xs) (take q xs))) e
       ∙ ap (take (size xs - header xs)) (drop-take (header xs) (size xs - header xs) xs)
@@ -203,7 +203,7 @@ good_front {n} {most} p rest w l s =
     record {
       whole = front_whole p rest w;
       alone = subst (Sound n) (append-nil p ∙ sym (octets_are p rest w)) s;
-      short = omega (arith, length_append p rest);
+      short = omega (arith, length-append p rest);
     }
 
 all_good : {n : ℕ} {xs : List ℕ} (most : ℕ) → length xs ≤ most → Sound n xs → All (Good n most) (avps xs)
@@ -211,10 +211,10 @@ unfolding cut
 all_good most l none = tt
 all_good most l (plain {n} {p} {rest} w g s) =
     subst (All (Good n most)) (sym (avps_step p rest w))
-    (good_front p rest w l (plain w g none), all_good most (omega (arith, length_append p rest)) s)
+    (good_front p rest w l (plain w g none), all_good most (omega (arith, length-append p rest)) s)
 all_good most l (nested {n} {p} {rest} w g i s) =
     subst (All (Good (suc n) most)) (sym (avps_step p rest w))
-    (good_front p rest w l (nested w g i none), all_good most (omega (arith, length_append p rest)) s)
+    (good_front p rest w l (nested w g i none), all_good most (omega (arith, length-append p rest)) s)
 
 -- and those directly in its groups
 GoodThrough : ℕ → ℕ → Avp → Type 0
@@ -232,17 +232,17 @@ all_through most l none = tt
 all_through most l (plain {n} {p} {rest} w g s) =
     subst (All (GoodThrough n most)) (sym (avps_step p rest w)) (
       (good_front p rest w l (plain w g none), λ t. absurd (true≢false (sym t ∙ group_is p rest w ∙ g))),
-      all_through most (omega (arith, length_append p rest)) s,
+      all_through most (omega (arith, length-append p rest)) s,
     )
 all_through most l (nested {n} {p} {rest} w g i s) =
     let inner : All (Good (suc n) most) (avps (payload p)) =
-    All-weaker (Good n most) (Good (suc n) most) lifted (avps (payload p)) (all_good most (omega (arith, length_append p rest, payload_within p)) i) in
+    All-weaker (Good n most) (Good (suc n) most) lifted (avps (payload p)) (all_good most (omega (arith, length-append p rest, payload_within p)) i) in
     subst (All (GoodThrough (suc n) most)) (sym (avps_step p rest w)) (
       (
         good_front p rest w l (nested w g i none),
         λ _. subst (λ (q : List ℕ). All (Good (suc n) most) (avps q)) (sym (payload_is p rest w)) inner,
       ),
-      all_through most (omega (arith, length_append p rest)) s,
+      all_through most (omega (arith, length-append p rest)) s,
     )
 
 copyable : (a : Avp) → Good 3 copy_limit a → Copyable a

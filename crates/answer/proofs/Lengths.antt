@@ -1,5 +1,5 @@
 -- How long an answer is.
-use Rattle.std.proofs.Common.{◌≡◌, ℕ, suc, ◌+◌, ◌≤◌, Bool, true, false, cond, eqb, List, [], ◌++◌, length, refl, ap, ◌∙◌, arith, length_append}
+use Rattle.std.proofs.Common.{◌≡◌, ℕ, suc, ◌+◌, ◌≤◌, Bool, true, false, cond, eqb, List, [], ◌++◌, length, refl, ap, ◌∙◌, arith, length-append}
 use lib.ListN.{length-replicate}
 use Rattle.refusal.specs.declared.ResultCode.{ResultCode}
 use Rattle.refusal.specs.declared.ResultCode.TheVariants.{Base, Experimental}
@@ -36,8 +36,8 @@ length_front session r host realm =
     let h = length_sender host realm in
     omega (
       arith,
-      length_append (session_avp session) (application_avp ++ (result_avp r ++ sender_avps host realm)),
-      length_append (result_avp r) (sender_avps host realm),
+      length-append (session_avp session) (application_avp ++ (result_avp r ++ sender_avps host realm)),
+      length-append (result_avp r) (sender_avps host realm),
     )
 
 pub length_failed : (f : Fault) → kept_of f ≤ held_of f → length (failed_avp f) ≡ failed_size f
@@ -51,10 +51,10 @@ length_failed (lacks k) h =
 pub length_body : (a : Answer) → kept_of a.fault ≤ held_of a.fault → length (answer_body a) ≡ body_size a
 length_body a h =
     let fields : List ℕ = parts_bytes (field_parts a.values (members 10 a.shown)) in
-    length_append (answer_front a.session a.result a.host a.realm) (fields ++ failed_avp a.fault)
+    length-append (answer_front a.session a.result a.host a.realm) (fields ++ failed_avp a.fault)
     ∙ (λ i.
     length_front a.session a.result a.host a.realm i
-    + (length_append fields (failed_avp a.fault) ∙ (λ j. length_parts (field_parts a.values (members 10 a.shown)) j + length_failed a.fault h j)) i)
+    + (length-append fields (failed_avp a.fault) ∙ (λ j. length_parts (field_parts a.values (members 10 a.shown)) j + length_failed a.fault h j)) i)
 
 suc20 : (n m : ℕ) → n ≡ m → suc (suc (suc (suc (suc (suc (suc (suc (suc (suc (suc (suc (suc (suc (suc (suc (suc (suc (suc (suc n))))))))))))))))))) ≡ 20 + m
 suc20 n m e = omega arith

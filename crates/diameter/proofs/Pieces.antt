@@ -1,6 +1,6 @@
 -- An AVP as a piece of a sequence: what its header says does not depend on what follows it.
-use Rattle.std.proofs.Common.{◌≡◌, ℕ, ◌+◌, ◌-◌, ◌*◌, ◌<◌, ◌≤◌, true, cond, List, ◌++◌, length, get_or, take, drop, sym, ap, ◌∙◌, ⊎_elim, arith, length_append, length-drop}
-use Rattle.std.proofs.lemmas.List.{get_or_append_left, get_or-take, take_append_le, drop-append-le, drop_at, length-take-le}
+use Rattle.std.proofs.Common.{◌≡◌, ℕ, ◌+◌, ◌-◌, ◌*◌, ◌<◌, ◌≤◌, true, cond, List, ◌++◌, length, get_or, take, drop, sym, ap, ◌∙◌, ⊎_elim, arith, length-append, length-drop}
+use Rattle.std.proofs.lemmas.List.{get_or_append_left, get_or-take, take-append-le, drop-append-le, drop_at, length-take-le}
 use Rattle.std.proofs.lemmas.Bool.{cases_Bool}
 use Rattle.std.proofs.lemmas.Bool.Decides.{nat_tests}
 use Rattle.diameter.specs.Bytes.{be32, flagged, padded}
@@ -52,7 +52,7 @@ module _ (p rest : List ℕ) (w : Piece p) where
       let h = header_agree (p ++ rest) p (length p) kept w.headed inside in
       let s = size_agree (p ++ rest) p (length p) kept w.headed inside in
       let k = step_is in
-      let l = length_append p rest in
+      let l = length-append p rest in
       let a = w.headed in
       let b = w.covers in
       let covers : header (p ++ rest) ≤ size (p ++ rest) = omega arith in
@@ -67,7 +67,7 @@ module _ (p rest : List ℕ) (w : Piece p) where
       let l : size p - header p ≤ length (drop (header p) p) = let e = w.exact in simp length-drop (omega arith) in
       (λ i. take (s i - h i) (drop (h i) (p ++ rest)))
       ∙ ap (take (size p - header p)) (drop-append-le (header p) p rest inside)
-      ∙ take_append_le (size p - header p) (drop (header p) p) rest l
+      ∙ take-append-le (size p - header p) (drop (header p) p) rest l
 
   pub rest_is : drop (step (p ++ rest)) (p ++ rest) ≡ rest
   rest_is = drop_at p rest (step (p ++ rest)) (sym step_is)

@@ -1,5 +1,5 @@
 -- The members of a set in ascending order, taken off from the lowest.
-use Rattle.std.proofs.Common.{◌≡◌, ℕ, zero, suc, ◌+◌, ◌-◌, ◌*◌, ◌/◌, ◌%◌, ◌<◌, ◌≤◌, Bool, true, false, cond, eqb, List, [], ◌∷◌, ◌++◌, map, length, sym, refl, ap, ◌∙◌, inl, inr, append_assoc, append-nil, arith, length_append}
+use Rattle.std.proofs.Common.{◌≡◌, ℕ, zero, suc, ◌+◌, ◌-◌, ◌*◌, ◌/◌, ◌%◌, ◌<◌, ◌≤◌, Bool, true, false, cond, eqb, List, [], ◌∷◌, ◌++◌, map, length, sym, refl, ap, ◌∙◌, inl, inr, append_assoc, append-nil, arith, length-append}
 use mathlib.Core.List.{map-append}
 use lib.Bits.{bit_and, and_step, and_self}
 use lib.Count.{count_trailing_zeros, under}
@@ -102,4 +102,4 @@ pub members_count : (d n : ℕ) → length (members d n) ≡ how_many d n
 unfolding members
 members_count zero n = refl
 members_count (suc d) n =
-    length_append (members d n) (cond (has n d) (d ∷ []) []) ∙ (λ i. members_count d n i + cond_length (has n d) d i)
+    length-append (members d n) (cond (has n d) (d ∷ []) []) ∙ (λ i. members_count d n i + cond_length (has n d) d i)

@@ -1,6 +1,6 @@
 -- A text, one character at a time.
 use Rattle.std.proofs.Common.{◌≡◌, ℕ, ◌+◌, ◌<◌, ◌≤◌, true, false, cond, List, [], ◌∷◌, ◌++◌, length, get_or, take, drop, Some, None, Option, sym, ap, ◌∙◌, append_assoc, arith, length-take}
-use Rattle.std.proofs.lemmas.List.{drop_more, drop_all, take_append_le}
+use Rattle.std.proofs.lemmas.List.{drop_more, drop_all, take-append-le}
 use Rattle.std.proofs.lemmas.Bool.Decides.{nat_tests}
 use Rattle.hexadecimal.specs.Spelling.{Spelled, digit, blank, after, completed, waiting, ended, by_digit, spelled}
 
@@ -55,4 +55,4 @@ digit_small c d e = grind (arith, nat_tests)
 pub begins_still : (old items more : List ℕ) → take (length old) items ≡ old → take (length old) (items ++ more) ≡ old
 begins_still old items more e =
     let l : length old ≤ length items = omega (arith, simp length-take at (ap length e)) in
-    take_append_le (length old) items more l ∙ e
+    take-append-le (length old) items more l ∙ e

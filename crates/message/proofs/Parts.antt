@@ -1,5 +1,5 @@
 -- AVPs as values: their bytes, that they fit, and that they are sound.
-use Rattle.std.proofs.Common.{◌≡◌, ℕ, zero, suc, ◌^◌, ◌<◌, ◌≤◌, Bool, true, false, cond, eqb, List, [], ◌∷◌, ◌++◌, length, sym, refl, ap, ◌∙◌, append_assoc, append-nil, arith, length_append}
+use Rattle.std.proofs.Common.{◌≡◌, ℕ, zero, suc, ◌^◌, ◌<◌, ◌≤◌, Bool, true, false, cond, eqb, List, [], ◌∷◌, ◌++◌, length, sym, refl, ap, ◌∙◌, append_assoc, append-nil, arith, length-append}
 use Rattle.std.specs.List.{AllByRecursion as All}
 use Rattle.std.proofs.ByRecursion.{All-append, All-weaker}
 use Rattle.diameter.specs.Bytes.{flagged}
@@ -73,7 +73,7 @@ pub length_sender : (host realm : List ℕ) → length (sender_avps host realm) 
 length_sender host realm =
     let h = length_avp 264 0x40 0 host in
     let r = length_avp 296 0x40 0 realm in
-    omega (arith, length_append (avp 264 0x40 0 host) (avp 296 0x40 0 realm))
+    omega (arith, length-append (avp 264 0x40 0 host) (avp 296 0x40 0 realm))
 
 pub all_both : {X : Type 0} (P Q : X → Type 0) (xs : List X) → All P xs → All Q xs → All (λ x. P x × Q x) xs
 all_both P Q [] p q = tt

@@ -1,5 +1,5 @@
 -- The counts of an AF are those of its ledger, and sum up to what fell due.
-use Rattle.std.proofs.Common.{◌≡◌, ℕ, zero, suc, ◌+◌, ◌-◌, ◌^◌, ◌<◌, ◌≤◌, max, Bool, true, false, cond, not, ◌&&◌, eqb, ltb, List, [], ◌∷◌, ◌++◌, map, length, get_or, replicate, Ok, Err, Option, Result, sym, refl, ap, ◌∙◌, subst, arith, length_append}
+use Rattle.std.proofs.Common.{◌≡◌, ℕ, zero, suc, ◌+◌, ◌-◌, ◌^◌, ◌<◌, ◌≤◌, max, Bool, true, false, cond, not, ◌&&◌, eqb, ltb, List, [], ◌∷◌, ◌++◌, map, length, get_or, replicate, Ok, Err, Option, Result, sym, refl, ap, ◌∙◌, subst, arith, length-append}
 use lib.ListN.{length-replicate}
 use Rattle.std.proofs.lemmas.Bool.{false≢true, not-false, lt-ltb}
 use Rattle.std.proofs.lemmas.Bool.Decides.{nat_tests}
@@ -197,7 +197,7 @@ sum_due {l} {n} q event v h =
     record {
       level =
           by (ltb (length l.line) 16) (λ b. l.acknowledged + l.given_up + cond b l.lost (l.lost + 1) + length (cond b (l.line ++ (due_notice q event v ∷ [])) l.line) ≡ l.due + 1)
-          (λ _. let e = length_append l.line (due_notice q event v ∷ []) in omega (arith, lv, e))
+          (λ _. let e = length-append l.line (due_notice q event v ∷ []) in omega (arith, lv, e))
           (λ _. omega (arith, lv));
       few = omega (arith, f);
     }

@@ -1,5 +1,5 @@
 -- How long a notification is.
-use Rattle.std.proofs.Common.{◌≡◌, ℕ, suc, ◌+◌, Bool, true, false, cond, List, [], ◌∷◌, ◌++◌, length, decimal, refl, ap, ◌∙◌, arith, length_append}
+use Rattle.std.proofs.Common.{◌≡◌, ℕ, suc, ◌+◌, Bool, true, false, cond, List, [], ◌∷◌, ◌++◌, length, decimal, refl, ap, ◌∙◌, arith, length-append}
 use Rattle.dictionary.specs.Addresses.{Address}
 use Rattle.writer.specs.Bytes.{bytes32}
 use Rattle.writer.specs.Avps.{avp}
@@ -14,21 +14,21 @@ pub length_session : (host : List ℕ) (number serial : ℕ) → length (session
 length_session host number serial =
     omega (
       arith,
-      length_append host (0x3B ∷ (decimal number ++ (0x3B ∷ decimal serial))),
-      length_append (decimal number) (0x3B ∷ decimal serial),
+      length-append host (0x3B ∷ (decimal number ++ (0x3B ∷ decimal serial))),
+      length-append (decimal number) (0x3B ∷ decimal serial),
     )
 
 pub length_peer : (host realm : List ℕ) → length (peer_avps host realm) ≡ peer_size host realm
 length_peer host realm =
     let h = length_avp 293 0x40 0 host in
     let r = length_avp 283 0x40 0 realm in
-    omega (arith, length_append (avp 293 0x40 0 host) (avp 283 0x40 0 realm))
+    omega (arith, length-append (avp 293 0x40 0 host) (avp 283 0x40 0 realm))
 
 pub length_address : (a : Address) → length (address_data a) ≡ address_size a
 length_address a =
     let i = length_avp 8 0x40 0 a.ip in
     let r = length_avp 301 0xC0 13019 a.realm in
-    omega (arith, length_append (avp 8 0x40 0 a.ip) (avp 301 0xC0 13019 a.realm))
+    omega (arith, length-append (avp 8 0x40 0 a.ip) (avp 301 0xC0 13019 a.realm))
 
 -- its AVPs fill whole words
 pub address_whole : (a : Address) → length (avp 300 0xC0 13019 (address_data a)) ≡ 12 + address_size a
@@ -41,7 +41,7 @@ address_whole a =
 length_event : (e : ℕ) (a : Address) → length (event_avps e a) ≡ event_size a
 length_event e a =
     let l = address_whole a in
-    omega (arith, length_append (avp 354 0x80 13019 (bytes32 e)) (avp 300 0xC0 13019 (address_data a)))
+    omega (arith, length-append (avp 354 0x80 13019 (bytes32 e)) (avp 300 0xC0 13019 (address_data a)))
 
 length_unless : (b : Bool) (xs : List ℕ) (n : ℕ) → length xs ≡ n → length (cond b xs []) ≡ cond b n 0
 length_unless true xs n e = e
@@ -53,7 +53,7 @@ length_told e xs =
 
 -- of seven runs of bytes one after the other
 seven : (a b c d e f g : List ℕ) → length (a ++ (b ++ (c ++ (d ++ (e ++ (f ++ g)))))) ≡ length a + (length b + (length c + (length d + (length e + (length f + length g)))))
-seven a b c d e f g = simp length_append refl
+seven a b c d e f g = simp length-append refl
 
 pub length_body : (n : Notification) → length (notification_body n) ≡ body_size n
 length_body n =

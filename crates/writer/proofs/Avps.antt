@@ -1,5 +1,5 @@
 -- AVPs as bytes: how long they are, and what their header says.
-use Rattle.std.proofs.Common.{◌≡◌, ℕ, ◌+◌, ◌-◌, ◌%◌, ◌^◌, ◌<◌, Bool, true, false, cond, List, [], ◌∷◌, ◌++◌, length, take, drop, sym, refl, ap, ◌∙◌, append-nil, arith, length_append}
+use Rattle.std.proofs.Common.{◌≡◌, ℕ, ◌+◌, ◌-◌, ◌%◌, ◌^◌, ◌<◌, Bool, true, false, cond, List, [], ◌∷◌, ◌++◌, length, take, drop, sym, refl, ap, ◌∙◌, append-nil, arith, length-append}
 use lib.ListN.{length-replicate}
 use Rattle.std.proofs.lemmas.List.{take_at}
 use Rattle.std.proofs.lemmas.Bool.Decides.{nat_tests}
@@ -16,8 +16,8 @@ laid b code flags vendor payload =
     bytes32 code ++ (flags ∷ (bytes24 (cond b 12 8 + length payload) ++ (cond b (bytes32 vendor) [] ++ (payload ++ zeros (padding (length payload))))))
 
 length_laid : (b : Bool) (code flags vendor : ℕ) (payload : List ℕ) → length (laid b code flags vendor payload) ≡ padded (cond b 12 8 + length payload)
-length_laid true code flags vendor payload = simp (length_append, length-replicate) (omega arith)
-length_laid false code flags vendor payload = simp (length_append, length-replicate) (omega arith)
+length_laid true code flags vendor payload = simp (length-append, length-replicate) (omega arith)
+length_laid false code flags vendor payload = simp (length-append, length-replicate) (omega arith)
 
 pub length_avp : (code flags vendor : ℕ) (payload : List ℕ) → length (avp code flags vendor payload) ≡ avp_size flags (length payload)
 length_avp code flags vendor payload = length_laid (flagged 0x80 flags) code flags vendor payload

@@ -1,5 +1,5 @@
 -- Stores, one at a time and in a row.
-use Rattle.std.proofs.Common.{◌≡◌, ℕ, ◌+◌, ◌-◌, ◌≤◌, List, [], ◌++◌, length, get_or, take, drop, sym, refl, ap, ◌∙◌, subst, append_assoc, append-nil, add-zero, arith, length_append, length-drop, length-take, drop-drop, Bor}
+use Rattle.std.proofs.Common.{◌≡◌, ℕ, ◌+◌, ◌-◌, ◌≤◌, List, [], ◌++◌, length, get_or, take, drop, sym, refl, ap, ◌∙◌, subst, append_assoc, append-nil, add-zero, arith, length-append, length-drop, length-take, drop-drop, Bor}
 use borrow.Rule.Slice.PartMut.{put_mid}
 use Rattle.std.proofs.lemmas.List.{length-take-le, get_or-take, get_or-drop, get_or_append_left, get_or-append-add}
 use Rattle.std.proofs.lemmas.Slice.{take-put_mid, drop-put_mid}
@@ -15,13 +15,13 @@ wrote_part b at upto part run same ends fits =
       end = ends;
       front = take-put_mid at (upto - at) b part upto (omega arith) (omega arith) ∙ ap (λ q. take at b ++ q) same;
       rest = drop-put_mid at (upto - at) b part upto (omega arith) (omega arith) (omega arith);
-      size = simp (length_append, length-take, length-drop) (omega arith);
+      size = simp (length-append, length-take, length-drop) (omega arith);
     }
 
 wrote_both : {b₀ b₁ b₂ : List ℕ} {at e₁ e₂ : ℕ} {xs ys : List ℕ} → Wrote b₀ at xs b₁ e₁ → Wrote b₁ e₁ ys b₂ e₂ → Wrote b₀ at (xs ++ ys) b₂ e₂
 wrote_both {b₀} {b₁} {b₂} {at} {e₁} {e₂} {xs} {ys} v w =
     record {
-      end = omega (arith, v.end, w.end, length_append xs ys);
+      end = omega (arith, v.end, w.end, length-append xs ys);
       front = w.front ∙ ap (λ q. q ++ ys) v.front ∙ append_assoc (take at b₀) xs ys;
       rest =
           w.rest

@@ -1,5 +1,5 @@
 -- What holds of all that is written.
-use Rattle.std.proofs.Common.{◌≡◌, ℕ, suc, ◌+◌, ◌%◌, true, ◌&&◌, List, [], ◌∷◌, ◌++◌, length, take, sym, refl, ap, ◌∙◌, subst, append-nil, arith, length_append}
+use Rattle.std.proofs.Common.{◌≡◌, ℕ, suc, ◌+◌, ◌%◌, true, ◌&&◌, List, [], ◌∷◌, ◌++◌, length, take, sym, refl, ap, ◌∙◌, subst, append-nil, arith, length-append}
 use Rattle.std.proofs.lemmas.List.{take_at}
 use Rattle.diameter.specs.Avps.{code, vendor, step, payload, group}
 use Rattle.diameter.specs.Lists.{front, avps, cut}
@@ -76,7 +76,7 @@ part_sound {n} {p} e s = subst (Sound n) (append-nil (part_bytes p)) ((decided n
 pub length_parts : (ps : List Part) → length (parts_bytes ps) ≡ parts_size ps
 length_parts [] = refl
 length_parts (p ∷ ps) =
-    length_append (part_bytes p) (parts_bytes ps)
+    length-append (part_bytes p) (parts_bytes ps)
     ∙ (λ i. length_avp p.code p.flags p.vendor p.payload i + length_parts ps i)
 
 pub parts_size_whole : (ps : List Part) → parts_size ps % 4 ≡ 0
