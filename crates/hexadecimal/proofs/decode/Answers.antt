@@ -3,22 +3,22 @@ use Rattle.std.proofs.lemmas.List.{take_all}
 use Rattle.hexadecimal.specs.Spelling.{Spelled, spelled, after, completed, waiting, ended}
 use Rattle.hexadecimal.proofs.Turns.{Small, begins_still, digit_read, digit_small, spelled_blank, spelled_fault, spelled_end}
 use Rattle.hexadecimal.proofs.decode.Goals as goal
-use Rattle.hexadecimal.proofs.decode.Goals.{in-None, in-Some-high+else-is-err}
+use Rattle.hexadecimal.proofs.decode.Goals.{in-None, in-Some-high+else-is_err}
 
 pub loop-i-init : goal.loop-i-init
 loop-i-init c = (refl, take_all _ (vec_items c.args.out.now) (omega arith), tt)
 
-pub loop-i-preserved-then-is-blank : goal.loop-i-preserved-then-is-blank
-loop-i-preserved-then-is-blank c = (
-  sym (ap (after (vec_items c.loop-i.out)) (spelled_blank c.args.text.now c.loop-i.high c.loop-i.i (omega arith) c.if-is-blank.ensures)) ∙ c.loop-i.invariant.0,
+pub loop-i-preserved-then-is_blank : goal.loop-i-preserved-then-is_blank
+loop-i-preserved-then-is_blank c = (
+  sym (ap (after (vec_items c.loop-i.out)) (spelled_blank c.args.text.now c.loop-i.high c.loop-i.i (omega arith) c.if-is_blank.ensures)) ∙ c.loop-i.invariant.0,
   c.loop-i.invariant.1,
   c.loop-i.invariant.2,
 )
 
-pub returns-in-default : goal.returns-in-default
-returns-in-default c =
+pub returns-in_default : goal.returns-in_default
+returns-in_default c =
     let e : after (vec_items c.loop-i.out) (record { bytes = []; fault = Some (c.loop-i.i + 1) }) ≡ after (vec_items c.args.out.now) (spelled 1 None c.args.text.now) =
-    sym (ap (after (vec_items c.loop-i.out)) (spelled_fault c.args.text.now c.loop-i.high c.loop-i.i (omega arith) c.if-is-blank.ensures c.in-default.ensures)) ∙ c.loop-i.invariant.0 in
+    sym (ap (after (vec_items c.loop-i.out)) (spelled_fault c.args.text.now c.loop-i.high c.loop-i.i (omega arith) c.if-is_blank.ensures c.in_default.ensures)) ∙ c.loop-i.invariant.0 in
     (sym (append-nil _) ∙ ap (λ (s : Spelled). s.bytes) e, sym (ap (λ (s : Spelled). s.fault) e))
 
 pub loop-i-preserved : goal.loop-i-preserved
@@ -27,7 +27,7 @@ loop-i-preserved c =
     let old = vec_items c.args.out.now in
     let items = vec_items c.loop-i.out in
     let d = c.in-Some.digit in
-    let turn = digit_read text c.loop-i.high c.loop-i.i (omega arith) c.if-is-blank.ensures d c.in-Some.ensures items in
+    let turn = digit_read text c.loop-i.high c.loop-i.i (omega arith) c.if-is_blank.ensures d c.in-Some.ensures items in
     let small : d < 16 = digit_small (get_or text c.loop-i.i 0) d c.in-Some.ensures in
     elim c.match-high.branch [
       | in-None w ↦
@@ -37,11 +37,11 @@ loop-i-preserved c =
             ap (take (length old)) more ∙ begins_still old items _ c.loop-i.invariant.1,
             subst Small (sym w.high-is) small,
           ))
-      | in-Some-high+else-is-err w ↦
+      | in-Some-high+else-is_err w ↦
           (let more : vec_items c.match-high.out ≡ items ++ completed c.loop-i.high d =
           ap vec_items w.out-is
           ∙ w.push.ensures.items
-          ∙ ap (λ (b : Bool). cond b (items ++ (w.in-Some-high.first * 16 + d) ∷ []) items) w.if-is-err.ensures.negation
+          ∙ ap (λ (b : Bool). cond b (items ++ (w.in-Some-high.first * 16 + d) ∷ []) items) w.if-is_err.ensures.negation
           ∙ ap (λ (o : Option ℕ). items ++ completed o d) (sym w.in-Some-high.is) in (
             turn _ _ more (w.high-is ∙ ap (λ (o : Option ℕ). waiting o d) (sym w.in-Some-high.is)) ∙ c.loop-i.invariant.0,
             ap (take (length old)) more ∙ begins_still old items _ c.loop-i.invariant.1,

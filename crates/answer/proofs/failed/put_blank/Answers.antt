@@ -16,6 +16,6 @@ returns c =
     (group_avp 279 0x40 0 _ (avp c.args.code c.args.flags c.args.vendor (zeros c.args.size)) (omega arith) (omega arith))
     (c.avp_header.ensures.wrote
     ⊕ appends_as (sized_avp c.args.code c.args.flags c.args.vendor _ (zeros c.args.size) n)
-    (c.avp-header-2.ensures.wrote ⊕ c.zeros.ensures.wrote ⊕ appends_as (ap zeros c.padding.ensures) c.zeros-2.ensures.wrote)) in
+    (c.avp_header-2.ensures.wrote ⊕ c.zeros.ensures.wrote ⊕ appends_as (ap zeros c.padding.ensures) c.zeros-2.ensures.wrote)) in
     let outer = length_avp 279 0x40 0 (avp c.args.code c.args.flags c.args.vendor (zeros c.args.size)) in
     record { wrote = all; ends = omega (arith, all.wrote.end) }

@@ -23,20 +23,20 @@ loop-field-preserved g c =
       (
         done.0 ++ part_bytes (field_part k (values k)),
         (
-          done.1.0 ⊕ appends_as (ap (λ (q : List ℕ). part_bytes (field_part k q)) v) c.put-field.ensures.wrote,
+          done.1.0 ⊕ appends_as (ap (λ (q : List ℕ). part_bytes (field_part k q)) v) c.put_field.ensures.wrote,
           append_assoc done.0 (part_bytes (field_part k (values k))) (parts_bytes (field_parts values after))
               ∙ ap (λ (q : List ℕ). done.0 ++ q) (sym (bytes_more values before after k steps))
               ∙ done.1.1,
         ),
       ),
-      omega (arith, c.loop-field.invariant.3, c.put-field.ensures.ends, c.put-field.ensures.wrote.wrote.size),
+      omega (arith, c.loop-field.invariant.3, c.put_field.ensures.ends, c.put_field.ensures.wrote.wrote.size),
     )
 
 pub returns : goal.returns
 returns g c =
     let values : ℕ → List ℕ = g.S.FieldSource.value c.args.source.now in
     let done = c.loop-field.invariant.2 in
-    let start : c.into-iter-field-iterator.result.rest ≡ c.args.shown.bits = search rules in
+    let start : c.into_iter-field-iterator.result.rest ≡ c.args.shown.bits = search rules in
     appends_as
     (sym (append-nil done.0)
     ∙ ap (λ (q : List ℕ). done.0 ++ parts_bytes (field_parts values q)) (sym c.in-None.ensures.steps)

@@ -3,4 +3,4 @@ use Rattle.writer.proofs.Stores.{◌⊕◌}
 use Rattle.answer.proofs.front.put_experimental.Goals as goal
 
 pub returns : goal.returns
-returns c = record { wrote = c.avp_header.ensures.wrote ⊕ c.avp-u32.ensures.wrote ⊕ c.avp-u32-2.ensures.wrote; ends = omega arith }
+returns c = record { wrote = c.avp_header.ensures.wrote ⊕ c.avp_u32.ensures.wrote ⊕ c.avp_u32-2.ensures.wrote; ends = omega arith }

@@ -5,6 +5,6 @@ use Rattle.answer.proofs.front.put_front.Goals as goal
 pub returns : goal.returns
 returns c =
     record {
-      wrote = c.put-session.ensures.wrote ⊕ c.put-application.ensures ⊕ c.put-result.ensures.wrote ⊕ c.put-sender.ensures.wrote;
-      ends = omega (arith, c.put-session.ensures.ends, c.put-application.ensures.wrote.end, c.put-result.ensures.ends, c.put-sender.ensures.ends);
+      wrote = c.put_session.ensures.wrote ⊕ c.put_application.ensures ⊕ c.put_result.ensures.wrote ⊕ c.put_sender.ensures.wrote;
+      ends = omega (arith, c.put_session.ensures.ends, c.put_application.ensures.wrote.end, c.put_result.ensures.ends, c.put_sender.ensures.ends);
     }

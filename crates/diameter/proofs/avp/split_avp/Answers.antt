@@ -5,9 +5,9 @@ use Rattle.diameter.proofs.avp.split_avp.Goals as goal
 
 pub returns : goal.returns
 returns c =
-    let r = c.in-ok-code.ensures in
+    let r = c.in_ok-code.ensures in
     let xs = c.args.bytes.now in
-    let s = c.in-ok-code.field-0 in
+    let s = c.in_ok-code.field-0 in
     let n : s.next - 0 ≡ step xs = omega (arith, r.next) in
     record {
       there = r.there;

@@ -17,5 +17,5 @@ loop-avp-preserved g c =
 
 pub returns : goal.returns
 returns g c =
-    let e = ap (count_such (g.P.AvpTest.holds c.args.test.now)) (avps_stop c.loop-avp.left.now c.in-default.ensures) in
+    let e = ap (count_such (g.P.AvpTest.holds c.args.test.now)) (avps_stop c.loop-avp.left.now c.in_default.ensures) in
     omega arith

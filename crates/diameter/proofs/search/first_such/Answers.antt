@@ -11,4 +11,4 @@ loop-avp-preserved g c = first_miss c.in-Some.ensures (g.P.AvpTest.holds c.args.
 
 pub returns : goal.returns
 returns g c =
-    sym (ap (first_such (g.P.AvpTest.holds c.args.test.now)) (avps_stop c.loop-avp.rest.now c.in-default.ensures)) ∙ c.loop-avp.invariant
+    sym (ap (first_such (g.P.AvpTest.holds c.args.test.now)) (avps_stop c.loop-avp.rest.now c.in_default.ensures)) ∙ c.loop-avp.invariant

@@ -2,8 +2,8 @@ use Rattle.std.proofs.Common.{◌≡◌, length}
 use Rattle.diameter.specs.Soundness.{sound}
 use Rattle.diameter.proofs.sound.+is_sound.Given as goal
 
-abbrev pub decreases-is-sound : goal.decreases-is-sound
-decreases-is-sound l = l.levels
+abbrev pub decreases-is_sound : goal.decreases-is_sound
+decreases-is_sound l = l.levels
 
 abbrev pub invariant-loop-avp : goal.invariant-loop-avp
 invariant-loop-avp l = sound l.levels l.rest ≡ sound l.levels l.bytes

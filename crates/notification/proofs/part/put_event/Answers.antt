@@ -5,6 +5,6 @@ use Rattle.notification.proofs.part.put_event.Goals as goal
 pub returns : goal.returns
 returns c =
     record {
-      wrote = c.avp-u32.ensures.wrote ⊕ c.put-address.ensures.wrote;
-      ends = omega (arith, c.avp-u32.ensures.ends, c.put-address.ensures.ends);
+      wrote = c.avp_u32.ensures.wrote ⊕ c.put_address.ensures.wrote;
+      ends = omega (arith, c.avp_u32.ensures.ends, c.put_address.ensures.ends);
     }

@@ -14,7 +14,7 @@ returns c =
     let r = avp_size_whole 0xC0 (length a.realm) in
     record {
       wrote =
-          appends_as (group_avp 300 0xC0 13019 _ (address_data a) (omega (arith, c.avp_size.ensures, c.avp-size-2.ensures)) (omega (arith, c.avp_size.ensures, c.avp-size-2.ensures)))
-          (c.avp_header.ensures.wrote ⊕ c.put-known.ensures.wrote ⊕ c.put-known-2.ensures.wrote);
-      ends = omega (arith, c.avp_header.ensures.ends, c.put-known.ensures.ends, c.put-known-2.ensures.ends);
+          appends_as (group_avp 300 0xC0 13019 _ (address_data a) (omega (arith, c.avp_size.ensures, c.avp_size-2.ensures)) (omega (arith, c.avp_size.ensures, c.avp_size-2.ensures)))
+          (c.avp_header.ensures.wrote ⊕ c.put_known.ensures.wrote ⊕ c.put_known-2.ensures.wrote);
+      ends = omega (arith, c.avp_header.ensures.ends, c.put_known.ensures.ends, c.put_known-2.ensures.ends);
     }

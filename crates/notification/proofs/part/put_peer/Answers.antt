@@ -9,7 +9,7 @@ returns c =
     let realm = ap (λ (q : List ℕ). length q) c.realm.ensures.is in
     record {
       wrote =
-          appends_as (ap (λ (q : List ℕ). avp 293 0x40 0 q) c.host.ensures.is) c.put-known.ensures.wrote
-          ⊕ appends_as (ap (λ (q : List ℕ). avp 283 0x40 0 q) c.realm.ensures.is) c.put-known-2.ensures.wrote;
-      ends = omega (arith, c.put-known.ensures.ends, c.put-known-2.ensures.ends);
+          appends_as (ap (λ (q : List ℕ). avp 293 0x40 0 q) c.host.ensures.is) c.put_known.ensures.wrote
+          ⊕ appends_as (ap (λ (q : List ℕ). avp 283 0x40 0 q) c.realm.ensures.is) c.put_known-2.ensures.wrote;
+      ends = omega (arith, c.put_known.ensures.ends, c.put_known-2.ensures.ends);
     }

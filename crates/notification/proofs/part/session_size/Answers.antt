@@ -6,6 +6,6 @@ pub returns : goal.returns
 returns c =
     let l = length_session c.args.host.now c.args.number c.args.serial in
     record {
-      is = omega (arith, c.decimal-size.ensures.size, c.decimal-size-2.ensures.size);
-      most = omega (arith, c.decimal-size.ensures.most, c.decimal-size-2.ensures.most);
+      is = omega (arith, c.decimal_size.ensures.size, c.decimal_size-2.ensures.size);
+      most = omega (arith, c.decimal_size.ensures.most, c.decimal_size-2.ensures.most);
     }

@@ -11,17 +11,17 @@ pub returns : goal.returns
 unfolding notification_bytes
 returns c =
     let n : Notification = notification_of c.args.origin c.args.to c.args.notice c.args.serial in
-    let size : c.notification-size-size.result ≡ 20 + length (notification_body n) = c.notification-size-size.ensures.is ∙ length_whole n in
+    let size : c.notification_size-size.result ≡ 20 + length (notification_body n) = c.notification_size-size.ensures.is ∙ length_whole n in
     let w =
     wrote_from_start c.new-w.ensures
     (appends_as (ap (λ (k : ℕ). message_header k 0xC0 309 16777231 n.serial n.serial) size) c.message_header.ensures
-    ⊕ appends_as (ap (λ (q : List ℕ). avp 263 0x40 0 (session_of q n.number n.serial)) c.host.ensures.is) c.put-session.ensures.wrote
-    ⊕ c.put-application.ensures
-    ⊕ c.put-sender.ensures.wrote
-    ⊕ c.put-peer.ensures.wrote
-    ⊕ c.put-event.ensures.wrote
-    ⊕ c.put-known.ensures.wrote
-    ⊕ c.put-told.ensures)
+    ⊕ appends_as (ap (λ (q : List ℕ). avp 263 0x40 0 (session_of q n.number n.serial)) c.host.ensures.is) c.put_session.ensures.wrote
+    ⊕ c.put_application.ensures
+    ⊕ c.put_sender.ensures.wrote
+    ⊕ c.put_peer.ensures.wrote
+    ⊕ c.put_event.ensures.wrote
+    ⊕ c.put_known.ensures.wrote
+    ⊕ c.put_told.ensures)
     c.end.ensures (search rules) in
-    let whole : c.end.result ≡ c.notification-size-size.result = (w.end ∙ zero-add (length (notification_bytes n))) ∙ sym c.notification-size-size.ensures.is in
-    record { bytes = w.front; rest = w.rest; size = w.end ∙ zero-add (length (notification_bytes n)); within = omega (arith, c.notification-size-size.ensures.most) }
+    let whole : c.end.result ≡ c.notification_size-size.result = (w.end ∙ zero-add (length (notification_bytes n))) ∙ sym c.notification_size-size.ensures.is in
+    record { bytes = w.front; rest = w.rest; size = w.end ∙ zero-add (length (notification_bytes n)); within = omega (arith, c.notification_size-size.ensures.most) }

@@ -19,5 +19,5 @@ loop-avp-preserved c =
 pub returns : goal.returns
 returns c =
     sym (union_all c.args.kind c.loop-avp.bits)
-    ∙ sym (ap (λ (l : List Avp). union c.args.kind c.loop-avp.bits l) (avps_stop c.loop-avp.rest.now c.in-default.ensures))
+    ∙ sym (ap (λ (l : List Avp). union c.args.kind c.loop-avp.bits l) (avps_stop c.loop-avp.rest.now c.in_default.ensures))
     ∙ c.loop-avp.invariant

@@ -21,5 +21,5 @@ returns c =
     let s = c.loop-avp.scan in
     scans after (avps c.args.bytes.now) s
     (sym (scanned_all after (found_of s))
-    ∙ sym (ap (λ (l : List Avp). scanned after (found_of s) l) (avps_stop c.loop-avp.rest.now c.in-default.ensures))
+    ∙ sym (ap (λ (l : List Avp). scanned after (found_of s) l) (avps_stop c.loop-avp.rest.now c.in_default.ensures))
     ∙ c.loop-avp.invariant)

@@ -20,4 +20,4 @@ pub returns : goal.returns
 returns c =
     let e = length_is c.args.afs.now c.args.k c.requires in
     let right : wrong_length (length (get_or (map entered_name c.args.afs.now) c.args.k [])) ≡ false = grind (arith, nat_tests) in
-    c.named-before.ensures ∙ sym (else_rest _ _ right)
+    c.named_before.ensures ∙ sym (else_rest _ _ right)

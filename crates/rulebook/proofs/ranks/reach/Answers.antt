@@ -8,11 +8,11 @@ use Rattle.rulebook.proofs.ranks.reach.Goals as goal
 pub loop-k-init : goal.loop-k-init
 loop-k-init c = sym (at_drop_all (reached c.args.rank) c.args.needs.now 10 (omega arith))
 
-pub overflow-mul-bits : goal.overflow-mul-bits
-overflow-mul-bits c = omega (arith, c.loop-k.invariant, reached_small c.args.rank c.args.needs.now c.loop-k.k c.requires)
+pub overflow_mul-bits : goal.overflow_mul-bits
+overflow_mul-bits c = omega (arith, c.loop-k.invariant, reached_small c.args.rank c.args.needs.now c.loop-k.k c.requires)
 
-pub overflow-add-bits : goal.overflow-add-bits
-overflow-add-bits c =
+pub overflow_add-bits : goal.overflow_add-bits
+overflow_add-bits c =
     omega (
       arith,
       c.loop-k.invariant,

@@ -4,7 +4,7 @@ use Rattle.std.proofs.lemmas.Bool.{not-true, not-false}
 use Rattle.table.specs.Tables.{number}
 use Rattle.table.proofs.Places.{number_more, number_same}
 use Rattle.table.proofs.search.count.Goals as goal
-use Rattle.table.proofs.search.count.Goals.{then-not-is-free, else-not-is-free}
+use Rattle.table.proofs.search.count.Goals.{then-not-is_free, else-not-is_free}
 
 pub loop-place-preserved : goal.loop-place-preserved
 loop-place-preserved g c =
@@ -14,12 +14,12 @@ loop-place-preserved g c =
     let p = c.place-item.result in
     let read = c.place-item.is in
     let inside = c.loop-place-test.true in
-    elim c.if-not-is-free.branch [
-      | then-not-is-free w ↦
-          let n = number_more ps i p read inside taken (not-false (taken p) (sym c.is-free.ensures ∙ w.if-not-is-free.true)) in
+    elim c.if-not-is_free.branch [
+      | then-not-is_free w ↦
+          let n = number_more ps i p read inside taken (not-false (taken p) (sym c.is_free.ensures ∙ w.if-not-is_free.true)) in
           (omega (arith, w.count-is), omega (arith, w.count-is, n))
-      | else-not-is-free w ↦
-          let n = number_same ps i p read inside taken (not-true (taken p) (sym c.is-free.ensures ∙ w.if-not-is-free.false)) in
+      | else-not-is_free w ↦
+          let n = number_same ps i p read inside taken (not-true (taken p) (sym c.is_free.ensures ∙ w.if-not-is_free.false)) in
           (omega (arith, w.count-is), omega (arith, w.count-is, n))
     ]
 

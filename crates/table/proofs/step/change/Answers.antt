@@ -15,14 +15,14 @@ returns g c =
       refused = never;
     }
 
-pub returns-in-default : goal.returns-in-default
-returns-in-default g c =
+pub returns-in_default : goal.returns-in_default
+returns-in_default g c =
     let m = g.P.Place in
     let k = m.spelt c.args.sought.now in
     let ps = c.args.places.now in
-    let none = none_held m.taken m.key m.entry ps k c.in-default.ensures.known in
+    let none = none_held m.taken m.key m.entry ps k c.in_default.ensures.known in
     record {
-      answer = c.in-default.ensures.known;
+      answer = c.in_default.ensures.known;
       law = idle_updated m.taken m.key m.entry (g.P.Change.changed c.args.how.now) k ps none;
       places = λ _. absent_contents m.taken m.key m.entry (λ p. content m.taken m.entry (g.P.Change.changed c.args.how.now p)) k ps none;
       refused = λ _. refl;

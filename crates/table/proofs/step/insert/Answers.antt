@@ -11,7 +11,7 @@ returns-in-Some g c =
     let ps = c.args.places.now in
     let p = c.args.place in
     let f = c.in-Some.ensures in
-    let none = none_under m.taken m.key m.entry ps (m.key p) (m.spelt c.own-key.result.now) c.find.result c.is-some.result c.find.ensures.known c.is-some.ensures c.if-is-some.false c.own-key.ensures in
+    let none = none_under m.taken m.key m.entry ps (m.key p) (m.spelt c.own_key.result.now) c.find.result c.is_some.result c.find.ensures.known c.is_some.ensures c.if-is_some.false c.own_key.ensures in
     let some = sym f.known in
     record {
       answer = simp (none, some);

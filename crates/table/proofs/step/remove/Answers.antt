@@ -15,10 +15,10 @@ returns g c =
       refused = never;
     }
 
-pub returns-in-default : goal.returns-in-default
-returns-in-default g c =
+pub returns-in_default : goal.returns-in_default
+returns-in_default g c =
     let m = g.P.Place in
     let k = m.spelt c.args.sought.now in
     let ps = c.args.places.now in
-    let none = none_held m.taken m.key m.entry ps k c.in-default.ensures.known in
-    record { answer = c.in-default.ensures.known; law = absent_updated m.taken m.key m.entry k ps none; places = λ _. absent_contents m.taken m.key m.entry (λ _. None) k ps none; refused = λ _. refl }
+    let none = none_held m.taken m.key m.entry ps k c.in_default.ensures.known in
+    record { answer = c.in_default.ensures.known; law = absent_updated m.taken m.key m.entry k ps none; places = λ _. absent_contents m.taken m.key m.entry (λ _. None) k ps none; refused = λ _. refl }

@@ -9,8 +9,8 @@ use Rattle.answer.specs.Drafts.{closed_of}
 use Rattle.answer.proofs.Lengths.{length_whole, length_answer}
 use Rattle.answer.proofs.draft.Closed.write.Goals as goal
 
-pub put-fields-requires : goal.put-fields-requires
-put-fields-requires g c =
+pub put_fields-requires : goal.put_fields-requires
+put_fields-requires g c =
     let a : Answer = closed_of g.S.FieldSource.value c.args.self in
     let n : c.args.self.size ≡ 20 + body_size a = c.requires.closed ∙ length_answer a c.args.self.draft.copy_there in
     let b = ap (λ (q : List ℕ). length q) c.new-w.ensures.holds in
@@ -20,12 +20,12 @@ put-fields-requires g c =
       c.new-w.ensures.start,
       c.message_header.ensures.wrote.end,
       c.message_header.ensures.wrote.size,
-      c.put-front.ensures.ends,
-      c.put-front.ensures.wrote.wrote.size,
+      c.put_front.ensures.ends,
+      c.put_front.ensures.wrote.wrote.size,
     )
 
-pub put-failed-requires : goal.put-failed-requires
-put-failed-requires g c =
+pub put_failed-requires : goal.put_failed-requires
+put_failed-requires g c =
     let a : Answer = closed_of g.S.FieldSource.value c.args.self in
     let n : c.args.self.size ≡ 20 + body_size a = c.requires.closed ∙ length_answer a c.args.self.draft.copy_there in
     let b = ap (λ (q : List ℕ). length q) c.new-w.ensures.holds in (
@@ -35,10 +35,10 @@ put-failed-requires g c =
         c.new-w.ensures.start,
         c.message_header.ensures.wrote.end,
         c.message_header.ensures.wrote.size,
-        c.put-front.ensures.ends,
-        c.put-front.ensures.wrote.wrote.size,
-        c.put-fields.ensures.wrote.end,
-        c.put-fields.ensures.wrote.size,
+        c.put_front.ensures.ends,
+        c.put_front.ensures.wrote.wrote.size,
+        c.put_fields.ensures.wrote.end,
+        c.put_fields.ensures.wrote.size,
         length_parts (field_parts a.values (members 10 a.shown)),
       ),
       (c.args.self.draft.copy_there, c.args.self.draft.copy_fits),
@@ -52,10 +52,10 @@ returns g c =
     let n : c.args.self.size ≡ 20 + length (answer_body a) = c.requires.closed ∙ length_whole a in
     let w =
     wrote_from_start c.new-w.ensures
-    (appends_as (λ i. message_header (n i) (c.answer-flags-flags.ensures i) h.command h.application h.hop_by_hop h.end_to_end) c.message_header.ensures
-    ⊕ c.put-front.ensures.wrote
-    ⊕ c.put-fields.ensures
-    ⊕ c.put-failed.ensures.wrote)
+    (appends_as (λ i. message_header (n i) (c.answer_flags-flags.ensures i) h.command h.application h.hop_by_hop h.end_to_end) c.message_header.ensures
+    ⊕ c.put_front.ensures.wrote
+    ⊕ c.put_fields.ensures
+    ⊕ c.put_failed.ensures.wrote)
     c.end.ensures (search rules) in
     let e : c.end.result ≡ c.args.self.size = (w.end ∙ zero-add (length (answer_bytes a))) ∙ sym c.requires.closed in
     record { bytes = w.front; rest = w.rest; size = w.end ∙ zero-add (length (answer_bytes a)); within = omega (arith, c.args.self.within) }

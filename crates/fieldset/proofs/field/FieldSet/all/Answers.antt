@@ -6,5 +6,5 @@ use Rattle.fieldset.proofs.field.FieldSet.all.Goals as goal
 pub returns : goal.returns
 returns c = record {
   is = search rules;
-  each = λ k h. ap (λ (n : ℕ). has n k) c.from-bits-truncate.ensures ∙ has_ones k 10 h;
+  each = λ k h. ap (λ (n : ℕ). has n k) c.from_bits_truncate.ensures ∙ has_ones k 10 h;
 }

@@ -30,8 +30,8 @@ some_left n h =
       | inr ne ↦ omega arith
     ]
 
-pub overflow-sub-self : goal.overflow-sub-self
-overflow-sub-self c = some_left c.args.self.now.rest (omega (arith, number_low c.in-Some.field, c.in-Some.ensures))
+pub overflow_sub-self : goal.overflow_sub-self
+overflow_sub-self c = some_left c.args.self.now.rest (omega (arith, number_low c.in-Some.field, c.in-Some.ensures))
 
 pub returns : goal.returns
 returns c =
@@ -41,8 +41,8 @@ returns c =
     lowest_first 10 16 n (omega arith) low ∙ ap (λ (k : ℕ). k ∷ members 10 (bit_and n (n - 1))) (sym c.in-Some.ensures) in
     record { steps = e; goes = firm ((tt, tt, omega (arith, ap length e))) (λ h. search rules) }
 
-pub returns-in-default : goal.returns-in-default
-returns-in-default c = record {
-  steps = none_below 10 16 c.args.self.now.rest (omega arith) c.in-default.ensures;
+pub returns-in_default : goal.returns-in_default
+returns-in_default c = record {
+  steps = none_below 10 16 c.args.self.now.rest (omega arith) c.in_default.ensures;
   goes = firm (tt) (λ h. search rules);
 }

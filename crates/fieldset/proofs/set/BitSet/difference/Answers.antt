@@ -4,8 +4,8 @@ use Rattle.fieldset.specs.Sets.{has, minus}
 use Rattle.fieldset.proofs.Laws.{has_minus, minus_is, narrow_and}
 use Rattle.fieldset.proofs.set.BitSet.difference.Goals as goal
 
-pub invariant-of-result : goal.invariant-of-result
-invariant-of-result g c = (narrow_and _ _ _ c.args.self.narrow, tt)
+pub invariant_of-result : goal.invariant_of-result
+invariant_of-result g c = record { narrow = narrow_and _ _ _ c.args.self.narrow }
 
 pub returns : goal.returns
 returns g c =

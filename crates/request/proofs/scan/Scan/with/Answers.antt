@@ -10,11 +10,11 @@ pub returns : goal.returns
 returns c =
     let a = c.args.avp in
     let s = c.args.self in
-    let k : c.kind-of-kind.result ≡ known a.code a.vendor =
-    c.kind-of-kind.ensures ∙ ap (λ (f : Form). form_kind f) c.form-of-form.ensures ∙ form_kind_is c.args.after a.code a.vendor a.payload.now in
+    let k : c.kind_of-kind.result ≡ known a.code a.vendor =
+    c.kind_of-kind.ensures ∙ ap (λ (f : Form). form_kind f) c.form_of-form.ensures ∙ form_kind_is c.args.after a.code a.vendor a.payload.now in
     λ i. record {
-      stranger = (c.note-stranger.ensures ∙ (λ j. or_else (found s.stranger) (stranger_by (k j) (avp_of a)))) i;
-      repeat = (c.note-repeat.ensures ∙ (λ j. or_else (found s.repeat) (repeat_by (k j) s.seen (avp_of a)))) i;
-      misfit = (c.note-misfit.ensures ∙ (λ j. or_else (found s.misfit) (misfit_by (c.form-of-form.ensures j) (avp_of a)))) i;
-      seen = (c.note-seen.ensures ∙ (λ j. seen_by (k j) s.seen)) i;
+      stranger = (c.note_stranger.ensures ∙ (λ j. or_else (found s.stranger) (stranger_by (k j) (avp_of a)))) i;
+      repeat = (c.note_repeat.ensures ∙ (λ j. or_else (found s.repeat) (repeat_by (k j) s.seen (avp_of a)))) i;
+      misfit = (c.note_misfit.ensures ∙ (λ j. or_else (found s.misfit) (misfit_by (c.form_of-form.ensures j) (avp_of a)))) i;
+      seen = (c.note_seen.ensures ∙ (λ j. seen_by (k j) s.seen)) i;
     }

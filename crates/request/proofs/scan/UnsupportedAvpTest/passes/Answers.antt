@@ -11,9 +11,9 @@ use Rattle.request.proofs.scan.UnsupportedAvpTest.passes.Goals as goal
 both : (mandatory none some known : Bool) → true ≡ mandatory → some ≡ not none → some ≡ known → none ≡ (mandatory && not known)
 both m n s k p q r = grind (arith, nat_tests)
 
-pub returns-then-is-mandatory : goal.returns-then-is-mandatory
-returns-then-is-mandatory c =
+pub returns-then-is_mandatory : goal.returns-then-is_mandatory
+returns-then-is_mandatory c =
     let a = c.args.avp in
-    let k : c.kind-of.result ≡ known a.code a.vendor =
-    c.kind-of.ensures ∙ ap (λ (f : Form). form_kind f) c.form-of.ensures ∙ form_kind_is None a.code a.vendor a.payload.now in
-    both (flagged 0x40 a.flags) c.is-none.result (is_some c.kind-of.result) (is_some (known a.code a.vendor)) c.if-is-mandatory.ensures c.is-none.ensures (ap (λ (o : Option Known). is_some o) k)
+    let k : c.kind_of.result ≡ known a.code a.vendor =
+    c.kind_of.ensures ∙ ap (λ (f : Form). form_kind f) c.form_of.ensures ∙ form_kind_is None a.code a.vendor a.payload.now in
+    both (flagged 0x40 a.flags) c.is_none.result (is_some c.kind_of.result) (is_some (known a.code a.vendor)) c.if-is_mandatory.ensures c.is_none.ensures (ap (λ (o : Option Known). is_some o) k)

@@ -10,6 +10,6 @@ outside r a shut k inside h = let e = has_minus a shut k in grind (arith, nat_te
 
 pub returns : goal.returns
 returns g c = record {
-  is = c.view-of.ensures.is;
-  shut = λ k h. outside c.view-of.result.bits (g.B.RuleBook.allows c.args.self.now.book c.args.af) c.args.self.now.shut.bits k (c.view-of.ensures.inside k) h;
+  is = c.view_of.ensures.is;
+  shut = λ k h. outside c.view_of.result.bits (g.B.RuleBook.allows c.args.self.now.book c.args.af) c.args.self.now.shut.bits k (c.view_of.ensures.inside k) h;
 }

@@ -4,4 +4,4 @@ use Rattle.rulebook.proofs.name.Name.new.Goals as goal
 
 pub returns : goal.returns
 returns c =
-    take_at _ _ (length c.args.text.now) (ap length c.copy-from-slice.ensures.after) ∙ c.copy-from-slice.ensures.after
+    take_at _ _ (length c.args.text.now) (ap length c.copy_from_slice.ensures.after) ∙ c.copy_from_slice.ensures.after

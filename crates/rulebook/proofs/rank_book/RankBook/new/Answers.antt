@@ -49,16 +49,16 @@ narrow needs ranks k ten =
           (omega (arith, ap (λ (r : Row). r.allowed) e), omega (arith, ap (λ (r : Row). r.overriding) e))
     ]
 
-pub returns-then-has-above-three : goal.returns-then-has-above-three
-returns-then-has-above-three c = record {
-  rights = sym (refused_rank c.args.ranks.now c.args.needs.now _ (sym c.if-has-above-three.ensures));
+pub returns-then-has_above_three : goal.returns-then-has_above_three
+returns-then-has_above_three c = record {
+  rights = sym (refused_rank c.args.ranks.now c.args.needs.now _ (sym c.if-has_above_three.ensures));
   answers = tt;
   each = λ rank k h. reached_each rank c.args.needs.now k (omega arith);
 }
 
-pub returns-then-has-above-three-2 : goal.returns-then-has-above-three-2
-returns-then-has-above-three-2 c = record {
-  rights = sym (refused_need c.args.ranks.now c.args.needs.now _ (sym c.if-has-above-three.ensures) (sym c.if-has-above-three-2.ensures));
+pub returns-then-has_above_three-2 : goal.returns-then-has_above_three-2
+returns-then-has_above_three-2 c = record {
+  rights = sym (refused_need c.args.ranks.now c.args.needs.now _ (sym c.if-has_above_three.ensures) (sym c.if-has_above_three-2.ensures));
   answers = tt;
   each = λ rank k h. reached_each rank c.args.needs.now k (omega arith);
 }
@@ -66,12 +66,12 @@ returns-then-has-above-three-2 c = record {
 pub returns : goal.returns
 returns c =
     let on = length (take c.args.sheet.now.len c.args.sheet.now.rows) in
-    let same : take c.min-count.result c.rank-rows-rows.result ≡ ranked (listing c.args.sheet.now) c.args.ranks.now c.args.needs.now =
-    kept_rows c.args.needs.now c.args.ranks.now c.rank-rows-rows.result on c.min-count.result
-    (omega (arith, c.min-count.ensures, c.from.ensures, c.len.ensures.rows)) c.rank-rows-rows.ensures in
+    let same : take c.min-count.result c.rank_rows-rows.result ≡ ranked (listing c.args.sheet.now) c.args.ranks.now c.args.needs.now =
+    kept_rows c.args.needs.now c.args.ranks.now c.rank_rows-rows.result on c.min-count.result
+    (omega (arith, c.min-count.ensures, c.from.ensures, c.len.ensures.rows)) c.rank_rows-rows.ensures in
     record {
       rights = ap Ok same
-          ∙ sym (accepted c.args.ranks.now c.args.needs.now _ (sym c.if-has-above-three.ensures) (sym c.if-has-above-three-2.ensures));
+          ∙ sym (accepted c.args.ranks.now c.args.needs.now _ (sym c.if-has_above_three.ensures) (sym c.if-has_above_three-2.ensures));
       answers = λ af. (
         ap (λ (rs : List Row). (get_or rs af blank).allowed % 1024) same
             ∙ mod-eq_of_lt (narrow c.args.needs.now (take on c.args.ranks.now) af (omega arith)).0,

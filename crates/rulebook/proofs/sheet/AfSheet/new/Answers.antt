@@ -34,21 +34,21 @@ accepted s h n w = λ i. cond (h i) (Err WrongAfCount) (cond (n i) (Err WrongNam
 pub returns-then-count-eq0 : goal.returns-then-count-eq0
 returns-then-count-eq0 c = sym (refused_26 (entered c.args.afs.now) (bad_count c.args.afs.now c.then-count-eq0.either))
 
-pub returns-then-has-wrong-name : goal.returns-then-has-wrong-name
-returns-then-has-wrong-name c =
+pub returns-then-has_wrong_name : goal.returns-then-has_wrong_name
+returns-then-has_wrong_name c =
     sym (refused_27 (entered c.args.afs.now) (right_count c.args.afs.now c.if-count-eq0.false c.if-count-gt32.false)
-    (sym c.if-has-wrong-name.ensures))
+    (sym c.if-has_wrong_name.ensures))
 
-pub returns-then-has-wrong-row : goal.returns-then-has-wrong-row
-returns-then-has-wrong-row c =
+pub returns-then-has_wrong_row : goal.returns-then-has_wrong_row
+returns-then-has_wrong_row c =
     sym (refused_28 (entered c.args.afs.now) (right_count c.args.afs.now c.if-count-eq0.false c.if-count-gt32.false)
-    (sym c.if-has-wrong-name.ensures) (sym c.if-has-wrong-row.ensures))
+    (sym c.if-has_wrong_name.ensures) (sym c.if-has_wrong_row.ensures))
 
-pub invariant-of-result : goal.invariant-of-result
-invariant-of-result c = (
+pub invariant_of-result : goal.invariant_of-result
+invariant_of-result c = (
   c.if-count-gt32.false,
   (
-    ap length c.kept-names.ensures ∙ length-map c.args.afs.now entered_name,
+    ap length c.kept_names.ensures ∙ length-map c.args.afs.now entered_name,
     (
       ap length c.kept_rows.ensures ∙ length-map c.args.afs.now entered_row,
       (
@@ -56,8 +56,8 @@ invariant-of-result c = (
           ap (λ (rs : List Row). wrong_count (length rs)) c.kept_rows.ensures
               ∙ right_count c.args.afs.now c.if-count-eq0.false c.if-count-gt32.false,
           (
-            ap wrong_names c.kept-names.ensures ∙ sym c.if-has-wrong-name.ensures,
-            (ap wrong_rows c.kept_rows.ensures ∙ sym c.if-has-wrong-row.ensures, tt),
+            ap wrong_names c.kept_names.ensures ∙ sym c.if-has_wrong_name.ensures,
+            (ap wrong_rows c.kept_rows.ensures ∙ sym c.if-has_wrong_row.ensures, tt),
           ),
         ),
         tt,
@@ -68,8 +68,8 @@ invariant-of-result c = (
 
 pub returns : goal.returns
 returns c =
-    let same : ◌≡◌ {A = Listing} (record { names = names_of (length c.args.afs.now) c.kept-names.result; rows = take (length c.args.afs.now) c.kept_rows.result }) (entered c.args.afs.now) =
-    λ i. record { names = c.kept-names.ensures i; rows = c.kept_rows.ensures i } in
+    let same : ◌≡◌ {A = Listing} (record { names = names_of (length c.args.afs.now) c.kept_names.result; rows = take (length c.args.afs.now) c.kept_rows.result }) (entered c.args.afs.now) =
+    λ i. record { names = c.kept_names.ensures i; rows = c.kept_rows.ensures i } in
     ap Ok same
     ∙ sym (accepted (entered c.args.afs.now) (right_count c.args.afs.now c.if-count-eq0.false c.if-count-gt32.false)
-    (sym c.if-has-wrong-name.ensures) (sym c.if-has-wrong-row.ensures))
+    (sym c.if-has_wrong_name.ensures) (sym c.if-has_wrong_row.ensures))
