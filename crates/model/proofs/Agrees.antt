@@ -2,7 +2,6 @@
 use Rattle.std.proofs.Common.{◌≡◌, ℕ, zero, suc, ◌+◌, ◌^◌, Bool, true, false, cond, not, ◌&&◌, ◌||◌, eqb, ltb, leb, List, [], ◌∷◌, ◌++◌, get_or, set, replicate, is_some, Some, None, Option, sym, refl, ap, ◌∙◌, arith}
 use Rattle.std.specs.Option.{option_map}
 use Rattle.std.proofs.lemmas.Bool.{false≢true, true≢false, not-false, lt-ltb}
-use Rattle.table.proofs.Lawful.{choice_laws}
 use Rattle.refusal.specs.declared.Refusal.TheVariants.{WrongArgument, AddressTaken, NoRoom}
 use Rattle.model.specs.Values.{Sets, Book, Notice, Opening, Call, Arrive, Set, Leave, Clock, Ask, Take, Settle, Tell, refused, fresh, with_value, some, entries}
 use Rattle.model.specs.Places.{is_taken, free_place, has_room, put_at, placed, altered}
@@ -17,12 +16,15 @@ abbrev pub Chosen : List Bool → Option ℕ → Type 0
 Chosen marks None = Unit {0}
 Chosen marks (Some i) = get_or marks i true ≡ false
 
+behind : (marks : List Bool) (m : Option ℕ) → Chosen marks m → Chosen (true ∷ marks) (option_map suc m)
+behind marks None h = h
+behind marks (Some i) h = h
+
 pub chosen : (marks : List Bool) → Chosen marks (free_place marks)
-chosen marks = picked (free_place marks) refl
-  where
-    picked : (m : Option ℕ) → free_place marks ≡ m → Chosen marks m
-    picked None e = tt
-    picked (Some i) e = (choice_laws (λ taken. taken)).free marks i true e
+unfolding free_place
+chosen [] = tt
+chosen (true ∷ marks) = behind marks (free_place marks) (chosen marks)
+chosen (false ∷ marks) = refl
 
 -- ---- sums over entries, which tell no order
 

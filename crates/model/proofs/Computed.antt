@@ -8,13 +8,13 @@ use Rattle.request.specs.Faults.{with_parts, repeated}
 use Rattle.request.specs.Readings.{union}
 use Rattle.answer.specs.Answers.{answer_bytes}
 use Rattle.model.specs.Values.{Notice, Session, Call, Arrive, Set, Ask, Line}
-use Rattle.table.specs.Choices.{choice}
+use Rattle.model.specs.Places.{free_place}
 use Rattle.model.specs.Steps.{Af, State, new_af, opened, after, reply, due_notice}
 use Rattle.model.specs.Histories.{transcript}
 use Rattle.model.specs.Days.{town, rights, home, events_wanted, figures, WorkedDay, seventeen, SeventeenDue}
 
 pub worked_day : WorkedDay
-unfolding cut walk sound members with_parts repeated union answer_bytes choice ones
+unfolding cut walk sound members with_parts repeated union answer_bytes free_place ones
 worked_day = refl
 
 -- ---- seventeen events, state by state
@@ -105,19 +105,19 @@ change_17 : after town rights (crowd (upto 16) 0 (16 ∷ [])) (Set home 4 (17 �
 change_17 = refl
 
 comes : after town rights (opened town) (Arrive home (0x75 ∷ []) 16) ≡ arrived
-unfolding choice
+unfolding free_place
 comes = refl
 
 subscribes : after town rights arrived (Ask 1 2048 (events_wanted (0x62 ∷ []) (4 ∷ []))) ≡ crowd [] 0 []
-unfolding cut walk sound members with_parts repeated union answer_bytes choice ones
+unfolding cut walk sound members with_parts repeated union answer_bytes free_place ones
 subscribes = refl
 
 accepted : figures (reply town rights arrived (Ask 1 2048 (events_wanted (0x62 ∷ []) (4 ∷ [])))) ≡ 0 ∷ 0 ∷ 112 ∷ []
-unfolding cut walk sound members with_parts repeated union answer_bytes choice ones
+unfolding cut walk sound members with_parts repeated union answer_bytes free_place ones
 accepted = refl
 
 let_in : figures (reply town rights (opened town) (Arrive home (0x75 ∷ []) 16)) ≡ 0 ∷ []
-unfolding choice
+unfolding free_place
 let_in = refl
 
 -- what is left from the change k on

@@ -10,15 +10,12 @@ use Rattle.request.specs.Faults.{with_parts, repeated}
 use Rattle.request.specs.Readings.{union}
 use Rattle.answer.specs.Answers.{answer_bytes}
 use Rattle.model.specs.Values.{Reply, Done, Answered, Taken, Counts}
-use Rattle.table.specs.Choices.{choice}
-use Rattle.table.specs.Tables.{room}
-use Rattle.table.proofs.Lawful.{choice_laws}
 use Rattle.model.specs.Places.{free_place}
 use Rattle.model.specs.Guards.{PairAlike, LeaksShutOut, MiscountsShutOut, PlacesChosen}
 use Rattle.model.proofs.Agrees.{Chosen, chosen}
 
 pub pair_alike : PairAlike
-unfolding cut walk sound members with_parts repeated union answer_bytes choice ones
+unfolding cut walk sound members with_parts repeated union answer_bytes free_place ones
 pair_alike = (record { names = refl; host = refl; realm = refl; places = refl; sets = refl; calls = refl }, refl, refl, refl, refl)
 
 -- a number that tells the replies here apart
@@ -45,20 +42,22 @@ leaks_shut_out = (
 )
 
 pub miscounts_shut_out : MiscountsShutOut
-unfolding cut walk sound members with_parts repeated union answer_bytes choice ones
+unfolding cut walk sound members with_parts repeated union answer_bytes free_place ones
 miscounts_shut_out = (
   λ b. true≢false (ap (λ x. eqb (weight x) 1) (b 0 [] [] _ (omega arith) refl (omega arith)).0),
   λ b. false≢true (ap (λ x. eqb (weight x) 10) (b 1 (_ ∷ _ ∷ _ ∷ _ ∷ []) [] _ (omega arith) refl (omega arith)).0),
 )
 
-some_room : (marks : List Bool) (i : ℕ) → get_or marks i true ≡ false → room (λ taken. taken) marks ≡ true
-some_room [] i h = absurd (true≢false h)
-some_room (false ∷ marks) i h = refl
-some_room (true ∷ marks) zero h = absurd (true≢false h)
-some_room (true ∷ marks) (suc i) h = some_room marks i h
-
 there : (marks : List Bool) (i : ℕ) → get_or marks i true ≡ false → is_some (free_place marks) ≡ true
-there marks i h = (choice_laws (λ taken. taken)).there marks ∙ some_room marks i h
+unfolding free_place
+there [] i h = absurd (true≢false h)
+there (false ∷ marks) i h = refl
+there (true ∷ marks) zero h = absurd (true≢false h)
+there (true ∷ marks) (suc i) h = kept (free_place marks) (there marks i h)
+  where
+    kept : (m : Option ℕ) → is_some m ≡ true → is_some (option_map suc m) ≡ true
+    kept None e = e
+    kept (Some i) e = refl
 
 pub places_chosen : PlacesChosen
 places_chosen = (λ marks i e. subst (Chosen marks) e (chosen marks), there)

@@ -5,14 +5,16 @@
 --     has_room ps       some place is free
 --     placed e ps       the places once the entry took one
 --     altered g ps      the places once each entry became what g makes of it, which may be nothing
-use Rattle.std.specs.Prelude.{ℕ, Bool, List, [], ◌∷◌, map, is_some, Some, None, Option, slice_set}
-use Rattle.table.specs.Choices.{choice}
+use Rattle.std.specs.Prelude.{ℕ, suc, Bool, cond, List, [], ◌∷◌, map, is_some, Some, None, Option, slice_set}
+use Rattle.std.specs.Option.{option_map}
 
 abbrev pub is_taken : {E : Type 0} → List (Option E) → List Bool
 is_taken ps = map is_some ps
 
-abbrev pub free_place : List Bool → Option ℕ
-free_place marks = choice (λ taken. taken) marks
+-- the first that is free
+unfoldable pub free_place : List Bool → Option ℕ
+free_place [] = None
+free_place (taken ∷ later) = cond taken (option_map suc (free_place later)) (Some 0)
 
 abbrev pub has_room : {E : Type 0} → List (Option E) → Bool
 has_room ps = is_some (free_place (is_taken ps))

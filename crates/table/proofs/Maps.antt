@@ -253,7 +253,3 @@ pub filled_contents : {P E : Type 0} (taken : P → Bool) (entry : P → E) (q :
 filled_contents taken entry q [] i = refl
 filled_contents taken entry q (p ∷ ps) zero = refl
 filled_contents taken entry q (p ∷ ps) (suc i) = ap (λ xs. content taken entry p ∷ xs) (filled_contents taken entry q ps i)
-
--- what a change owes, said of the place that it left
-pub kept_key : {P : Type 0} (taken : P → Bool) (key : P → List ℕ) (f : P → P) → ((p : P) → taken (f p) ≡ true → (taken p ≡ true) × (key (f p) ≡ key p)) → (p q : P) → q ≡ f p → taken q ≡ true → key q ≡ key p
-kept_key taken key f keeps p q e t = ap key e ∙ (keeps p (sym (ap taken e) ∙ t)).1

@@ -35,12 +35,11 @@ pub trait Place: Sized {
         ensures { taken self.new ≡ false };
 }
 
-/// A place that a `C` changes, where it stands. A change may free the place, and keeps its key otherwise; it takes no place that is free.
+/// A place that a `C` changes, where it stands. A change may free the place, and keeps the key otherwise.
 pub trait Change<C>: Place {
     ghost changed: { C → Self → Self };
 
     fn change(&mut self, how: &C)
-        ensures { self.new ≡ changed how.now self.old };
-
-    ghost keeps: { (how : C) (p : Self) → Self.Place.taken (changed how p) ≡ true → (Self.Place.taken p ≡ true) × (Self.Place.key (changed how p) ≡ Self.Place.key p) };
+        ensures is { self.new ≡ changed how.now self.old }
+        ensures key { Self.Place.taken self.new ≡ true → Self.Place.key self.new ≡ Self.Place.key self.old };
 }

@@ -65,10 +65,10 @@ pub fn change<C, P: Place + Change<C>>(places: &mut [P], sought: &P::Key, how: &
     true
 }
 
-/// Changes every place where it stands.
+/// Changes every place where it stands. A change that only frees or keeps what it finds changes each entry, and nothing else.
 pub fn sweep<C, P: Place + Change<C>>(places: &mut [P], how: &C)
     ensures is { places.new ≡ map (changed how.now) places.old }
-    ensures law { Distinct taken key places.old → Swept taken key entry (changed how.now) places.old }
+    ensures law { ((p : P) → taken (changed how.now p) ≡ true → (taken p ≡ true) × (key (changed how.now p) ≡ key p)) → Distinct taken key places.old → Swept taken key entry (changed how.now) places.old }
 {
     for place in places.iter_mut() {
         place.change(how);

@@ -1,12 +1,11 @@
 //! Two kinds of places, with all that each owes.
-ghost use Rattle.std.specs.Prelude.{◌≡◌, ℕ, min, true, false, take, None, Option};
+ghost use Rattle.std.specs.Prelude.{◌≡◌, ℕ, min, true, false, take, if◌then◌else◌, None, Option, nat_eq};
 ghost use Rattle.table.specs.declared.tests.State.TheVariants.{Free, Live};
-ghost use Rattle.std.proofs.Common.{rules};
 
+use crate::key::same_bytes;
 use crate::place::{Change, Place};
 use crate::search::{count, find};
 use crate::step::{Insertion, change, insert, remove, sweep};
-use text::compare::same_bytes;
 
 /// A name of at most eight bytes.
 #[derive(Clone, Copy)]
@@ -105,19 +104,19 @@ impl Place for Watch {
     }
 }
 
-/// The events that a watch is to have from now on, and its end.
+/// The events that a watch is to have from now on, and its end; none ends it.
 struct Renewal {
     events: u16,
     end: Option<u64>,
 }
 
 impl Change<Renewal> for Watch {
-    ghost changed = { λ n p. record { address = p.address; state = elim p.state [ Free ↦ Free | Live events end ↦ Live n.events n.end ] } };
-
-    ghost keeps = { Prim.search rules };
+    ghost changed = { λ n p. record { address = p.address; state = (if nat_eq n.events 0 then Free else Live n.events n.end) } };
 
     fn change(&mut self, how: &Renewal) {
-        if let State::Live { events: _, end: _ } = self.state {
+        if how.events == 0 {
+            self.state = State::Free;
+        } else {
             self.state = State::Live {
                 events: how.events,
                 end: how.end,
@@ -178,14 +177,37 @@ fn watches_are_changed_in_place(rt: HostRuntime) {
         )
     );
     assert_eq!(rt; count(&places), 1);
+    assert!(rt;
+        change(
+            &mut places,
+            &watch.address,
+            &Renewal {
+                events: 0,
+                end: None,
+            },
+        )
+    );
+    assert_eq!(rt; count(&places), 0);
+}
+
+#[test]
+fn a_sweep_reaches_every_watch(rt: HostRuntime) {
+    let state = State::Live {
+        events: 6,
+        end: None,
+    };
+    let mut places = [Watch {
+        address: [0; 4],
+        state,
+    }; 2];
+    places[1].address = [10, 0, 0, 7];
+    assert_eq!(rt; count(&places), 2);
     sweep(
         &mut places,
         &Renewal {
-            events: 1,
+            events: 0,
             end: None,
         },
     );
-    assert_eq!(rt; count(&places), 1);
-    assert!(rt; remove(&mut places, &watch.address));
     assert_eq!(rt; count(&places), 0);
 }

@@ -1,7 +1,7 @@
-use Rattle.std.proofs.Common.{get_or, refl, ap}
+use Rattle.std.proofs.Common.{refl, ap}
 use Rattle.table.specs.Tables.{content}
 use Rattle.table.proofs.Places.{none_held, never}
-use Rattle.table.proofs.Maps.{changed_updated, idle_updated, put_contents, absent_contents, kept_key}
+use Rattle.table.proofs.Maps.{changed_updated, idle_updated, put_contents, absent_contents}
 use Rattle.table.proofs.step.change.Goals as goal
 
 pub returns : goal.returns
@@ -10,8 +10,8 @@ returns g c =
     let f = c.in-Some.ensures in
     record {
       answer = f.known;
-      law = changed_updated m.taken m.key m.entry (g.P.Change.changed c.args.how.now) c.change.new.self (m.spelt c.args.sought.now) c.args.places.now c.in-Some.i c.index-places-i.result f.within f.held c.change.ensures (kept_key m.taken m.key (g.P.Change.changed c.args.how.now) (g.met.P.Change.keeps c.args.how.now) (get_or c.args.places.now c.in-Some.i c.index-places-i.result) c.change.new.self c.change.ensures);
-      places = put_contents m.taken m.key m.entry (λ p. content m.taken m.entry (g.P.Change.changed c.args.how.now p)) c.change.new.self (m.spelt c.args.sought.now) c.args.places.now c.in-Some.i c.index-places-i.result f.within (f.held c.index-places-i.result) (ap (content m.taken m.entry) c.change.ensures);
+      law = changed_updated m.taken m.key m.entry (g.P.Change.changed c.args.how.now) c.change.new.self (m.spelt c.args.sought.now) c.args.places.now c.in-Some.i c.index-places-i.result f.within f.held c.change.ensures.is c.change.ensures.key;
+      places = put_contents m.taken m.key m.entry (λ p. content m.taken m.entry (g.P.Change.changed c.args.how.now p)) c.change.new.self (m.spelt c.args.sought.now) c.args.places.now c.in-Some.i c.index-places-i.result f.within (f.held c.index-places-i.result) (ap (content m.taken m.entry) c.change.ensures.is);
       refused = never;
     }
 
