@@ -15,7 +15,7 @@ pub trait AvpTest {
 
 /// The first AVP that passes.
 pub fn first_such<'a, P: AvpTest>(test: &P, bytes: &'a [u8]) -> Option<AvpView<'a>>
-    ensures { found result ≡ first_such (holds test.now) (avps bytes.now) }
+    ensures { found result ≡ first_such (P.holds test.now) (avps bytes.now) }
 {
     let mut rest = bytes;
     while let Some((avp, after)) = split_avp(rest) {
@@ -29,7 +29,7 @@ pub fn first_such<'a, P: AvpTest>(test: &P, bytes: &'a [u8]) -> Option<AvpView<'
 
 /// How many AVPs pass.
 pub fn count_such<P: AvpTest>(test: &P, bytes: &[u8]) -> usize
-    ensures { result ≡ count_such (holds test.now) (avps bytes.now) }
+    ensures { result ≡ count_such (P.holds test.now) (avps bytes.now) }
 {
     let mut count = 0;
     let mut left = bytes;
@@ -44,7 +44,7 @@ pub fn count_such<P: AvpTest>(test: &P, bytes: &[u8]) -> usize
 
 /// The AVP that passes, where it is the only one.
 pub fn only_such<'a, P: AvpTest>(test: &P, bytes: &'a [u8]) -> Option<AvpView<'a>>
-    ensures { found result ≡ only_such (holds test.now) (avps bytes.now) }
+    ensures { found result ≡ only_such (P.holds test.now) (avps bytes.now) }
 {
     if count_such(test, bytes) == 1 {
         first_such(test, bytes)

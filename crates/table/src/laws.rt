@@ -5,41 +5,41 @@ use crate::place::Place;
 
 /// The place chosen for a new entry is within, is free, and is there exactly when some place is free.
 pub fn choice_is_free<P: Place>()
-    ensures { ChoiceLaws taken }
+    ensures { ChoiceLaws P.taken }
 {}
 
 /// Some place is free exactly when fewer are taken than there are.
 pub fn room_is_counted<P: Place>()
-    ensures { RoomCounted taken }
+    ensures { RoomCounted P.taken }
 {}
 
 /// After a step the map is changed at its key, and nowhere else.
 pub fn steps_are_told<P: Place>()
-    ensures here { ToldHere taken key entry }
-    ensures elsewhere { ToldElsewhere taken key entry }
+    ensures here { ToldHere P.taken P.key P.entry }
+    ensures elsewhere { ToldElsewhere P.taken P.key P.entry }
 {}
 
 /// Freed places serve again.
 pub fn freed_places_serve<P: Place>()
-    ensures { FreedServes taken key entry }
+    ensures { FreedServes P.taken P.key P.entry }
 {}
 
 /// A change of every place changes each entry, and nothing else, where it only frees or keeps what it finds.
 pub fn sweeps_are_told<P: Place>()
-    ensures { SweptTold taken key entry }
+    ensures { SweptTold P.taken P.key P.entry }
 {}
 
 /// No two taken places have the same key, said of any two of them.
 pub fn distinct_is_of_any_two<P: Place>()
-    ensures { DistinctMeans taken key }
+    ensures { DistinctMeans P.taken P.key }
 {}
 
 /// The number of places taken is the number of entries: it is the same wherever the map is the same.
 pub fn number_is_of_the_map<P: Place>()
-    ensures { NumberOfMap taken key entry }
+    ensures { NumberOfMap P.taken P.key P.entry }
 {}
 
 /// Places that are all free are a table without entries.
 pub fn free_places_are_empty<P: Place>()
-    ensures { EmptyTable taken key entry }
+    ensures { EmptyTable P.taken P.key P.entry }
 {}

@@ -7,10 +7,10 @@ use crate::place::Place;
 
 /// The place that holds the key, if the table has the key.
 pub fn find<P: Place>(places: &[P], sought: &P::Key) -> Option<usize>
-    ensures known { is_some result ≡ is_some (at taken key entry places.now (spelt sought.now)) }
+    ensures known { is_some result ≡ is_some (at P.taken P.key P.entry places.now (spelt sought.now)) }
     ensures within { IfSome result (λ i. i < length places.now) }
-    ensures held { IfSome result (λ i. (d : P) → holds taken key (spelt sought.now) (slice_index_or places.now i d) ≡ true) }
-    ensures alone { Distinct taken key places.now → IfSome result (λ i. (d : P) → holder taken key places.now (spelt sought.now) ≡ Some (slice_index_or places.now i d)) }
+    ensures held { IfSome result (λ i. (d : P) → holds P.taken P.key (P.spelt sought.now) (slice_index_or places.now i d) ≡ true) }
+    ensures alone { Distinct P.taken P.key places.now → IfSome result (λ i. (d : P) → holder P.taken P.key places.now (P.spelt sought.now) ≡ Some (slice_index_or places.now i d)) }
 {
     for (i, place) in places.iter().enumerate() {
         if place.is_at(sought) {
@@ -22,10 +22,10 @@ pub fn find<P: Place>(places: &[P], sought: &P::Key) -> Option<usize>
 
 /// A free place for a new entry, if there is any.
 pub fn free_place<P: Place>(places: &[P]) -> Option<usize>
-    ensures is { result ≡ choice taken places.now }
-    ensures known { is_some result ≡ room taken places.now }
+    ensures is { result ≡ choice P.taken places.now }
+    ensures known { is_some result ≡ room P.taken places.now }
     ensures within { IfSome result (λ i. i < length places.now) }
-    ensures free { IfSome result (λ i. (d : P) → taken (slice_index_or places.now i d) ≡ false) }
+    ensures free { IfSome result (λ i. (d : P) → P.taken (slice_index_or places.now i d) ≡ false) }
 {
     for (i, place) in places.iter().enumerate() {
         if place.is_free() {
@@ -37,7 +37,7 @@ pub fn free_place<P: Place>(places: &[P]) -> Option<usize>
 
 /// How many places are taken.
 pub fn count<P: Place>(places: &[P]) -> usize
-    ensures { result ≡ number taken places.now }
+    ensures { result ≡ number P.taken places.now }
 {
     let mut count = 0;
     for place in places {

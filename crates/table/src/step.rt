@@ -20,9 +20,9 @@ pub enum Insertion {
 
 /// Puts an entry in, given as the place that it is to be.
 pub fn insert<P: Place + Drop>(places: &mut [P], place: P) -> Insertion
-    ensures answer { result ≡ insertion (is_some (at taken key entry places.old (key place))) (room taken places.old) }
-    ensures law { result ≡ Insertion.Placed → Distinct taken key places.old → Updated taken key entry places.old places.new (key place) (content taken entry place) }
-    ensures places { result ≡ Insertion.Placed → contents taken entry places.new ≡ filled (choice taken places.old) (content taken entry place) (contents taken entry places.old) }
+    ensures answer { result ≡ insertion (is_some (at P.taken P.key P.entry places.old (P.key place))) (room P.taken places.old) }
+    ensures law { result ≡ Insertion.Placed → Distinct P.taken P.key places.old → Updated P.taken P.key P.entry places.old places.new (P.key place) (content P.taken P.entry place) }
+    ensures places { result ≡ Insertion.Placed → contents P.taken P.entry places.new ≡ filled (choice P.taken places.old) (content P.taken P.entry place) (contents P.taken P.entry places.old) }
     ensures refused { (result ≢ Insertion.Placed) → places.new ≡ places.old }
 {
     if find(places, place.own_key()).is_some() {
@@ -39,9 +39,9 @@ pub fn insert<P: Place + Drop>(places: &mut [P], place: P) -> Insertion
 
 /// Takes the entry under the key out; false where there is none.
 pub fn remove<P: Place>(places: &mut [P], sought: &P::Key) -> bool
-    ensures answer { result ≡ is_some (at taken key entry places.old (spelt sought.now)) }
-    ensures law { Distinct taken key places.old → Updated taken key entry places.old places.new (spelt sought.now) None }
-    ensures places { Distinct taken key places.old → contents taken entry places.new ≡ with_held taken key entry (spelt sought.now) (λ _. None) places.old }
+    ensures answer { result ≡ is_some (at P.taken P.key P.entry places.old (spelt sought.now)) }
+    ensures law { Distinct P.taken P.key places.old → Updated P.taken P.key P.entry places.old places.new (spelt sought.now) None }
+    ensures places { Distinct P.taken P.key places.old → contents P.taken P.entry places.new ≡ with_held P.taken P.key P.entry (spelt sought.now) (λ _. None) places.old }
     ensures refused { result ≡ false → places.new ≡ places.old }
 {
     let Some(i) = find(places, sought) else {
@@ -53,9 +53,9 @@ pub fn remove<P: Place>(places: &mut [P], sought: &P::Key) -> bool
 
 /// Changes the entry under the key where it stands; false where there is none.
 pub fn change<C, P: Place + Change<C>>(places: &mut [P], sought: &P::Key, how: &C) -> bool
-    ensures answer { result ≡ is_some (at taken key entry places.old (spelt sought.now)) }
-    ensures law { Distinct taken key places.old → Updated taken key entry places.old places.new (spelt sought.now) (changed_content taken entry (changed how.now) (holder taken key places.old (spelt sought.now))) }
-    ensures places { Distinct taken key places.old → contents taken entry places.new ≡ with_held taken key entry (spelt sought.now) (λ p. content taken entry (changed how.now p)) places.old }
+    ensures answer { result ≡ is_some (at P.taken P.key P.entry places.old (spelt sought.now)) }
+    ensures law { Distinct P.taken P.key places.old → Updated P.taken P.key P.entry places.old places.new (spelt sought.now) (changed_content P.taken P.entry (changed how.now) (holder P.taken P.key places.old (spelt sought.now))) }
+    ensures places { Distinct P.taken P.key places.old → contents P.taken P.entry places.new ≡ with_held P.taken P.key P.entry (spelt sought.now) (λ p. content P.taken P.entry (changed how.now p)) places.old }
     ensures refused { result ≡ false → places.new ≡ places.old }
 {
     let Some(i) = find(places, sought) else {
@@ -67,8 +67,8 @@ pub fn change<C, P: Place + Change<C>>(places: &mut [P], sought: &P::Key, how: &
 
 /// Changes every place where it stands. A change that only frees or keeps what it finds changes each entry, and nothing else.
 pub fn sweep<C, P: Place + Change<C>>(places: &mut [P], how: &C)
-    ensures is { places.new ≡ map (changed how.now) places.old }
-    ensures law { ((p : P) → taken (changed how.now p) ≡ true → (taken p ≡ true) × (key (changed how.now p) ≡ key p)) → Distinct taken key places.old → Swept taken key entry (changed how.now) places.old }
+    ensures is { places.new ≡ map (P.changed how.now) places.old }
+    ensures law { ((p : P) → P.taken (P.changed how.now p) ≡ true → (P.taken p ≡ true) × (P.key (P.changed how.now p) ≡ P.key p)) → Distinct P.taken P.key places.old → Swept P.taken P.key entry (P.changed how.now) places.old }
 {
     for place in places.iter_mut() {
         place.change(how);
