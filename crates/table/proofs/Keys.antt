@@ -1,6 +1,7 @@
 -- Keys that are the same bytes.
-use Rattle.std.proofs.Common.{◌≡◌, ℕ, Bool, true, false, ◌&&◌, eqb, List, [], ◌∷◌, ◌++◌, length, refl, ap, ◌∙◌, arith}
+use Rattle.std.proofs.Common.{◌≡◌, ℕ, Bool, true, false, ◌&&◌, eqb, List, [], ◌∷◌, ◌++◌, length, refl, sym, ap, ◌∙◌, inl, inr, arith}
 use Rattle.std.specs.Str.{bytes_eq}
+use Rattle.std.proofs.lemmas.Bool.{cases_Bool, both_ways}
 use Rattle.std.proofs.lemmas.Slice.Eq.{bytes_eq-Decides}
 
 pub same_true : (a b : List ℕ) → bytes_eq a b ≡ true → a ≡ b
@@ -11,6 +12,17 @@ same_refl a = (bytes_eq-Decides a a).1 refl
 
 pub same_from : (a b : List ℕ) → a ≡ b → bytes_eq a b ≡ true
 same_from a b e = (bytes_eq-Decides a b).1 e
+
+pub same_swapped : (a b : List ℕ) → bytes_eq a b ≡ bytes_eq b a
+same_swapped a b =
+    elim (cases_Bool (bytes_eq a b)) [
+      | inl s ↦ s ∙ sym (same_from b a (sym (same_true a b s)))
+      | inr s ↦
+          elim (cases_Bool (bytes_eq b a)) [
+            | inl t ↦ absurd (both_ways (bytes_eq a b) s (same_from a b (sym (same_true b a t))))
+            | inr t ↦ s ∙ sym t
+          ]
+    ]
 
 and_assoc : (a b c : Bool) → (a && (b && c)) ≡ ((a && b) && c)
 and_assoc true b c = refl

@@ -75,7 +75,7 @@ module _ {P E : Type 0} (taken : P → Bool) (key : P → List ℕ) (entry : P �
 
   pub told_elsewhere : ToldElsewhere taken key entry
   told_elsewhere ps qs k n v u apart =
-      ap (λ (m : List ℕ → Option E). m n) u.map ∙ cond-false (bytes_eq n k) v (at taken key entry ps n) (differ n k apart)
+      ap (λ (m : List ℕ → Option E). m n) u.map ∙ cond-false (bytes_eq k n) v (at taken key entry ps n) (differ k n (λ e. apart (sym e)))
 
   pub freed_serves : FreedServes taken key entry
   freed_serves ps qs k u was =

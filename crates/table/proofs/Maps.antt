@@ -7,7 +7,7 @@ use Rattle.std.proofs.lemmas.Bool.{cases_Bool, both_ways, and_parts, and_left, c
 use Rattle.std.proofs.lemmas.List.{length-set}
 use Rattle.table.specs.Tables.{holds, holder, at, content, contents, distinct, Distinct, number}
 use Rattle.table.specs.Steps.{counted, Updated, changed_content, with_held}
-use Rattle.table.proofs.Keys.{same_true, same_from}
+use Rattle.table.proofs.Keys.{same_true, same_from, same_swapped}
 use Rattle.table.proofs.Places.{some_mapped}
 
 pub none_from : {A : Type 0} (o : Option A) → is_some o ≡ false → o ≡ None
@@ -178,7 +178,7 @@ module _ {P E : Type 0} (taken : P → Bool) (key : P → List ℕ) (entry : P �
   pub put_updated : (q : P) (k : List ℕ) → (taken q ≡ true → key q ≡ k) → (ps : List P) (i : ℕ) (d : P) → i < length ps → Serves taken key k (get_or ps i d) ps → Distinct taken key ps → Updated taken key entry ps (set ps i q) k (content taken entry q)
   put_updated q k under ps i d inside serves apart =
       record {
-        map = λ j n. (ap (option_map entry) (put_holder taken key q k under ps i d inside apart serves n) ∙ read_put q (bytes_eq n k) (holder taken key ps n)) j;
+        map = λ j n. (ap (option_map entry) (put_holder taken key q k under ps i d inside apart serves n) ∙ read_put q (bytes_eq n k) (holder taken key ps n) ∙ ap (λ (b : Bool). cond b (content taken entry q) (at taken key entry ps n)) (same_swapped n k)) j;
         apart = put_distinct taken key q k under ps i d inside apart serves;
         taken_number = omega (arith, put_number taken q ps i d inside, counted_before k ps i d inside serves, counted_content taken entry q);
         places = length-set ps i q;
@@ -186,9 +186,9 @@ module _ {P E : Type 0} (taken : P → Bool) (key : P → List ℕ) (entry : P �
 
   same_update : (k n : List ℕ) (ps : List P) → is_some (holder taken key ps k) ≡ false → at taken key entry ps n ≡ update bytes_eq (at taken key entry ps) k None n
   same_update k n ps absent =
-      elim (cases_Bool (bytes_eq n k)) [
+      elim (cases_Bool (bytes_eq k n)) [
         | inl s ↦
-            let gone : holder taken key ps n ≡ None = subst (λ (m : List ℕ). holder taken key ps m ≡ None) (sym (same_true n k s)) (none_from (holder taken key ps k) absent) in
+            let gone : holder taken key ps n ≡ None = subst (λ (m : List ℕ). holder taken key ps m ≡ None) (same_true k n s) (none_from (holder taken key ps k) absent) in
             simp (s, gone)
         | inr s ↦ simp s
       ]

@@ -7,7 +7,7 @@ use crate::place::Place;
 
 /// The place that holds the key, if the table has the key.
 pub fn find<P: Place>(places: &[P], sought: &P::Key) -> Option<usize>
-    ensures known { is_some result ≡ is_some (at P.taken P.key P.entry places.now (spelt sought.now)) }
+    ensures known { is_some result ≡ is_some (at P.taken P.key P.entry places.now (P.spelt sought.now)) }
     ensures within { IfSome result (λ i. i < length places.now) }
     ensures held { IfSome result (λ i. (d : P) → holds P.taken P.key (P.spelt sought.now) (slice_index_or places.now i d) ≡ true) }
     ensures alone { Distinct P.taken P.key places.now → IfSome result (λ i. (d : P) → holder P.taken P.key places.now (P.spelt sought.now) ≡ Some (slice_index_or places.now i d)) }

@@ -39,9 +39,9 @@ pub fn insert<P: Place + Drop>(places: &mut [P], place: P) -> Insertion
 
 /// Takes the entry under the key out; false where there is none.
 pub fn remove<P: Place>(places: &mut [P], sought: &P::Key) -> bool
-    ensures answer { result ≡ is_some (at P.taken P.key P.entry places.old (spelt sought.now)) }
-    ensures law { Distinct P.taken P.key places.old → Updated P.taken P.key P.entry places.old places.new (spelt sought.now) None }
-    ensures places { Distinct P.taken P.key places.old → contents P.taken P.entry places.new ≡ with_held P.taken P.key P.entry (spelt sought.now) (λ _. None) places.old }
+    ensures answer { result ≡ is_some (at P.taken P.key P.entry places.old (P.spelt sought.now)) }
+    ensures law { Distinct P.taken P.key places.old → Updated P.taken P.key P.entry places.old places.new (P.spelt sought.now) None }
+    ensures places { Distinct P.taken P.key places.old → contents P.taken P.entry places.new ≡ with_held P.taken P.key P.entry (P.spelt sought.now) (λ _. None) places.old }
     ensures refused { result ≡ false → places.new ≡ places.old }
 {
     let Some(i) = find(places, sought) else {
@@ -53,9 +53,9 @@ pub fn remove<P: Place>(places: &mut [P], sought: &P::Key) -> bool
 
 /// Changes the entry under the key where it stands; false where there is none.
 pub fn change<C, P: Place + Change<C>>(places: &mut [P], sought: &P::Key, how: &C) -> bool
-    ensures answer { result ≡ is_some (at P.taken P.key P.entry places.old (spelt sought.now)) }
-    ensures law { Distinct P.taken P.key places.old → Updated P.taken P.key P.entry places.old places.new (spelt sought.now) (changed_content P.taken P.entry (changed how.now) (holder P.taken P.key places.old (spelt sought.now))) }
-    ensures places { Distinct P.taken P.key places.old → contents P.taken P.entry places.new ≡ with_held P.taken P.key P.entry (spelt sought.now) (λ p. content P.taken P.entry (changed how.now p)) places.old }
+    ensures answer { result ≡ is_some (at P.taken P.key P.entry places.old (P.spelt sought.now)) }
+    ensures law { Distinct P.taken P.key places.old → Updated P.taken P.key P.entry places.old places.new (P.spelt sought.now) (changed_content P.taken P.entry (P.changed how.now) (holder P.taken P.key places.old (P.spelt sought.now))) }
+    ensures places { Distinct P.taken P.key places.old → contents P.taken P.entry places.new ≡ with_held P.taken P.key P.entry (P.spelt sought.now) (λ p. content P.taken P.entry (P.changed how.now p)) places.old }
     ensures refused { result ≡ false → places.new ≡ places.old }
 {
     let Some(i) = find(places, sought) else {
@@ -68,7 +68,7 @@ pub fn change<C, P: Place + Change<C>>(places: &mut [P], sought: &P::Key, how: &
 /// Changes every place where it stands. A change that only frees or keeps what it finds changes each entry, and nothing else.
 pub fn sweep<C, P: Place + Change<C>>(places: &mut [P], how: &C)
     ensures is { places.new ≡ map (P.changed how.now) places.old }
-    ensures law { ((p : P) → P.taken (P.changed how.now p) ≡ true → (P.taken p ≡ true) × (P.key (P.changed how.now p) ≡ P.key p)) → Distinct P.taken P.key places.old → Swept P.taken P.key entry (P.changed how.now) places.old }
+    ensures law { ((p : P) → P.taken (P.changed how.now p) ≡ true → (P.taken p ≡ true) × (P.key (P.changed how.now p) ≡ P.key p)) → Distinct P.taken P.key places.old → Swept P.taken P.key P.entry (P.changed how.now) places.old }
 {
     for place in places.iter_mut() {
         place.change(how);

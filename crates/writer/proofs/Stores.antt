@@ -1,5 +1,6 @@
 -- Stores, one at a time and in a row.
-use Rattle.std.proofs.Common.{◌≡◌, ℕ, ◌+◌, ◌-◌, ◌≤◌, List, [], ◌++◌, length, get_or, take, drop, sym, refl, ap, ◌∙◌, subst, append_assoc, append-nil, add-zero, arith, length-append, length-drop, length-take, drop-drop, Bor}
+use Rattle.std.proofs.Common.{◌≡◌, ℕ, ◌+◌, ◌-◌, ◌≤◌, List, [], ◌++◌, length, get_or, take, drop, sym, refl, ap, ◌∙◌, subst, append_assoc, append-nil, add-zero, arith, length-append, length-drop, length-take, drop-drop}
+use denote.MutBor.{MutBor}
 use borrow.Rule.Slice.PartMut.{put_mid}
 use Rattle.std.proofs.lemmas.List.{length-take-le, get_or-take, get_or-drop, get_or_append_left, get_or-append-add}
 use Rattle.std.proofs.lemmas.Slice.{take-put_mid, drop-put_mid}
@@ -52,7 +53,7 @@ pub appends_to : {w w' v : Writer} {xs : List ℕ} → v ≡ w' → Appends w xs
 appends_to {w} {w'} {v} {xs} e a = subst (λ (q : Writer). Appends w xs q) (sym e) a
 
 -- what a buffer holds that was lent to a writer from its start
-pub wrote_from_start : {b : Bor (List ℕ)} {w w' : Writer} {xs after : List ℕ} {r : ℕ} → Begins b w → Appends w xs w' → r ≡ w'.end → after ≡ w'.buffer.now → Wrote b.now 0 xs after r
+pub wrote_from_start : {b : MutBor (List ℕ)} {w w' : Writer} {xs after : List ℕ} {r : ℕ} → Begins b w → Appends w xs w' → r ≡ w'.end → after ≡ w'.buffer.now → Wrote b.now 0 xs after r
 wrote_from_start {b} {w} {w'} {xs} {after} {r} s a e h =
     subst (λ (v : List ℕ × ℕ × List ℕ × ℕ). Wrote v.0 v.1 xs v.2 v.3) (λ i. (s.holds i, s.start i, sym h i, sym e i)) a.wrote
 
