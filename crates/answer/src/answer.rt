@@ -28,7 +28,7 @@ impl<'m, 'o, 's, S: FieldSource> Draft<'m, 'o, 's, S> {
         source: &'s S,
     ) -> Draft<'m, 'o, 's, S>
         requires { length session.now ≤ session_limit }
-        ensures { answer_of value result ≡ bare header session.now res origin.entry.host.now origin.entry.realm.now (value source.now) }
+        ensures { answer_of S.value result ≡ bare header session.now res origin.entry.host.now origin.entry.realm.now (S.value source.now) }
     {
         Draft {
             header,
@@ -43,7 +43,7 @@ impl<'m, 'o, 's, S: FieldSource> Draft<'m, 'o, 's, S> {
 
     /// Shows the fields of the set, with their values.
     pub fn show(self, fields: FieldSet) -> Draft<'m, 'o, 's, S>
-        ensures { answer_of value result ≡ showing fields.bits (answer_of value self.entry) }
+        ensures { answer_of S.value result ≡ showing fields.bits (answer_of S.value self.entry) }
     {
         let Draft {
             header,
@@ -68,7 +68,7 @@ impl<'m, 'o, 's, S: FieldSource> Draft<'m, 'o, 's, S> {
     /// Tells which AVP of the request is at fault or missing.
     pub fn tell(self, told: Carried<'m>) -> Draft<'m, 'o, 's, S>
         requires { FitsTell (fault_of told) }
-        ensures { answer_of value result ≡ telling (fault_of told.entry) (answer_of value self.entry) }
+        ensures { answer_of S.value result ≡ telling (fault_of told.entry) (answer_of S.value self.entry) }
     {
         let Draft {
             header,
@@ -92,7 +92,7 @@ impl<'m, 'o, 's, S: FieldSource> Draft<'m, 'o, 's, S> {
 
     /// How long the answer is.
     fn size(&self) -> usize
-        ensures is { result ≡ length (answer_bytes (answer_of value self.now)) }
+        ensures is { result ≡ length (answer_bytes (answer_of S.value self.now)) }
         ensures most { result ≤ buffer_least }
     {
         let front = front_size(self.session, self.result, self.origin);
@@ -102,8 +102,8 @@ impl<'m, 'o, 's, S: FieldSource> Draft<'m, 'o, 's, S> {
 
     /// Ends adding: the length is known.
     pub fn close(self) -> Closed<'m, 'o, 's, S>
-        ensures same { closed_of value result ≡ answer_of value self.entry }
-        ensures size { result.size ≡ length (answer_bytes (closed_of value result)) }
+        ensures same { closed_of S.value result ≡ answer_of S.value self.entry }
+        ensures size { result.size ≡ length (answer_bytes (closed_of S.value result)) }
     {
         let size = self.size();
         Closed { draft: self, size }
@@ -114,10 +114,10 @@ impl<S: FieldSource> Closed<'_, '_, '_, S> {
     /// Writes the answer to the front of the buffer, and says how long it is.
     pub fn write(self, out: &mut [u8]) -> usize
         requires room { buffer_least ≤ length out.old }
-        requires closed { self.size ≡ length (answer_bytes (closed_of value self)) }
-        ensures bytes { take result out.new ≡ answer_bytes (closed_of value self.entry) }
+        requires closed { self.size ≡ length (answer_bytes (closed_of S.value self)) }
+        ensures bytes { take result out.new ≡ answer_bytes (closed_of S.value self.entry) }
         ensures rest { drop result out.new ≡ drop result out.old }
-        ensures size { result ≡ length (answer_bytes (closed_of value self.entry)) }
+        ensures size { result ≡ length (answer_bytes (closed_of S.value self.entry)) }
         ensures within { result ≤ buffer_least }
     {
         let Closed { draft, size } = self;

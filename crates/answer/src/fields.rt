@@ -12,7 +12,7 @@ use writer::writer::Writer;
 
 /// How long the AVPs of the fields of a set are.
 pub(crate) fn fields_size<S: FieldSource>(source: &S, shown: FieldSet) -> usize
-    ensures is { result ≡ parts_size (field_parts (value source.now) (members 10 shown.bits)) }
+    ensures is { result ≡ parts_size (field_parts (S.value source.now) (members 10 shown.bits)) }
     ensures most { result ≤ fields_most }
 {
     let mut size = 0;
@@ -24,8 +24,8 @@ pub(crate) fn fields_size<S: FieldSource>(source: &S, shown: FieldSet) -> usize
 
 /// The AVPs of the fields of a set, in ascending order.
 pub(crate) fn put_fields<S: FieldSource>(w: &mut Writer<'_>, source: &S, shown: FieldSet)
-    requires { room (parts_size (field_parts (value source.now) (members 10 shown.bits))) w.old }
-    ensures { Appends w.old (parts_bytes (field_parts (value source.now) (members 10 shown.bits))) w.new }
+    requires { room (parts_size (field_parts (S.value source.now) (members 10 shown.bits))) w.old }
+    ensures { Appends w.old (parts_bytes (field_parts (S.value source.now) (members 10 shown.bits))) w.new }
 {
     for field in shown.fields() {
         put_field(w, field, source.value(field));

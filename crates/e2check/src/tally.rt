@@ -1,7 +1,7 @@
 //! How many lines were judged in each way.
 ghost use Rattle.std.specs.Prelude.{◌≡◌, slice_index};
 ghost use Rattle.refusal.specs.Refusals.{number};
-ghost use Rattle.e2check.specs.Tallies.{counted, «none_counted»};
+ghost use Rattle.e2check.specs.Tallies.{counted, none_counted};
 
 use crate::line::Judged;
 use refusal::Refusal;

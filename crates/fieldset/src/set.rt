@@ -1,6 +1,6 @@
 //! A set of the numbers below a width, in the bits of one number.
 ghost use Rattle.std.specs.Prelude.{◌≡◌, ℕ, ◌%◌, ◌^◌, ◌<◌, ◌≤◌, min, true, not, ◌&&◌, ◌||◌, length, Some, None, ◌==◌, ◌≢◌, bit_and, bit_or, count_ones};
-ghost use Rattle.fieldset.specs.Sets.{has, minus, inside, «how_many», members};
+ghost use Rattle.fieldset.specs.Sets.{has, minus, inside, how_many, members};
 
 /// A set of numbers below `WIDTH`: `k` is a member where bit `k` is set. Numbers from 16 on are never members.
 #[derive(Clone, Copy, PartialEq, Eq, Debug)]

@@ -3,7 +3,7 @@ ghost use Rattle.std.specs.Prelude.{◌≡◌, ℕ, true, false, [], ◌∷◌, 
 ghost use Rattle.fieldset.specs.Sets.{has, minus};
 ghost use Rattle.refusal.specs.Verdicts.{judged, told};
 ghost use Rattle.refusal.specs.declared.Refusal.TheVariants.{WrongOpening};
-ghost use Rattle.rulebook.specs.Views.{«view_under»};
+ghost use Rattle.rulebook.specs.Views.{view_under};
 
 use crate::book::RuleBook;
 use crate::views::view_of;

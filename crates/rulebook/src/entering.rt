@@ -1,7 +1,7 @@
 //! Application functions on their way into a sheet: the tests that they pass, and the copies that are kept.
 ghost use Rattle.std.specs.Prelude.{◌≡◌, ◌<◌, ◌≤◌, false, [], map, length, take, slice_index_or};
 ghost use Rattle.std.specs.Str.{bytes_eq};
-ghost use Rattle.rulebook.specs.Sheets.{«some_below», «wrong_name», «wrong_names», «wrong_rows», «entered_name», «entered_row», «names_of»};
+ghost use Rattle.rulebook.specs.Sheets.{some_below, wrong_name, wrong_names, wrong_rows, entered_name, entered_row, names_of};
 
 use crate::name::Name;
 use crate::row::{AfRow, Row};

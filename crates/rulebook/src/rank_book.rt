@@ -3,7 +3,7 @@ ghost use Rattle.std.specs.Prelude.{◌≡◌, ℕ, ◌<◌, Ok, Err, nat_le, sl
 ghost use Rattle.fieldset.specs.Sets.{has};
 ghost use Rattle.refusal.specs.Verdicts.{judged, told};
 ghost use Rattle.rulebook.specs.Listed.{listing};
-ghost use Rattle.rulebook.specs.Books.{reached, ranked, «AnswersBy», «rank_refusals», «rank_rights», «sheet_allows», «sheet_overrides»};
+ghost use Rattle.rulebook.specs.Books.{reached, ranked, AnswersBy, rank_refusals, rank_rights, sheet_allows, sheet_overrides};
 
 use crate::book::RuleBook;
 use crate::ranks::{has_above_three, rank_rows};

@@ -1,6 +1,6 @@
 //! Ranks and needs on their way into a rank book.
 ghost use Rattle.std.specs.Prelude.{◌≡◌, ◌<◌, ◌≤◌, map, length, take};
-ghost use Rattle.rulebook.specs.Books.{reached, «rank_row», «above_three»};
+ghost use Rattle.rulebook.specs.Books.{reached, rank_row, above_three};
 
 use crate::row::Row;
 

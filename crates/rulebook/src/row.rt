@@ -1,6 +1,6 @@
 //! The rights of one application function, as two plain numbers.
 ghost use Rattle.std.specs.Prelude.{◌≡◌};
-ghost use Rattle.rulebook.specs.Rows.{«wrong_row»};
+ghost use Rattle.rulebook.specs.Rows.{wrong_row};
 
 use fieldset::FieldSet;
 

@@ -1,7 +1,7 @@
 //! The sheet of application functions: a checked value with their names and their rows.
 ghost use Rattle.std.specs.Prelude.{◌≡◌, ◌≤◌, length};
 ghost use Rattle.refusal.specs.Verdicts.{Unrefused};
-ghost use Rattle.rulebook.specs.Sheets.{kept, «sheet_refusals»};
+ghost use Rattle.rulebook.specs.Sheets.{kept, sheet_refusals};
 
 mod methods;
 

@@ -2,7 +2,7 @@
 ghost use Rattle.std.specs.Prelude.{◌≡◌, slice_index_or};
 ghost use Rattle.rulebook.specs.Rows.{blank};
 ghost use Rattle.rulebook.specs.Listed.{listing};
-ghost use Rattle.rulebook.specs.Books.{rights, «AnswersBy», «sheet_allows», «sheet_overrides»};
+ghost use Rattle.rulebook.specs.Books.{rights, AnswersBy, sheet_allows, sheet_overrides};
 
 use crate::book::RuleBook;
 use crate::row::Row;

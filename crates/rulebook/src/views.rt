@@ -1,7 +1,7 @@
 //! The view: what an application function sees of a session.
 ghost use Rattle.std.specs.Prelude.{◌≡◌, ℕ, true, false};
 ghost use Rattle.fieldset.specs.Sets.{has};
-ghost use Rattle.rulebook.specs.Views.{seen, view, «WorkedViews»};
+ghost use Rattle.rulebook.specs.Views.{seen, view, WorkedViews};
 
 use crate::book::RuleBook;
 use fieldset::FieldSet;

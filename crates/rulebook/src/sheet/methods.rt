@@ -2,7 +2,7 @@
 ghost use Rattle.std.specs.Prelude.{◌≡◌, length};
 ghost use Rattle.std.specs.Option.{option_map};
 ghost use Rattle.refusal.specs.Verdicts.{judged, told};
-ghost use Rattle.rulebook.specs.Sheets.{entered, entry, «sheet_refusals»};
+ghost use Rattle.rulebook.specs.Sheets.{entered, entry, sheet_refusals};
 ghost use Rattle.rulebook.specs.Listed.{listing};
 
 use crate::entering::{has_wrong_name, has_wrong_row, kept_names, kept_rows};

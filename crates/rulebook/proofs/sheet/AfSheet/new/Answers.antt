@@ -45,26 +45,19 @@ returns-then-has_wrong_row c =
     (sym c.if-has_wrong_name.ensures) (sym c.if-has_wrong_row.ensures))
 
 pub invariant_of-result : goal.invariant_of-result
-invariant_of-result c = (
-  c.if-count-gt32.false,
-  (
-    ap length c.kept_names.ensures ∙ length-map c.args.afs.now entered_name,
+invariant_of-result c = record {
+  fits = c.if-count-gt32.false;
+  named = ap length c.kept_names.ensures ∙ length-map c.args.afs.now entered_name;
+  full = ap length c.kept_rows.ensures ∙ length-map c.args.afs.now entered_row;
+  sound = (
+    ap (λ (rs : List Row). wrong_count (length rs)) c.kept_rows.ensures
+        ∙ right_count c.args.afs.now c.if-count-eq0.false c.if-count-gt32.false,
     (
-      ap length c.kept_rows.ensures ∙ length-map c.args.afs.now entered_row,
-      (
-        (
-          ap (λ (rs : List Row). wrong_count (length rs)) c.kept_rows.ensures
-              ∙ right_count c.args.afs.now c.if-count-eq0.false c.if-count-gt32.false,
-          (
-            ap wrong_names c.kept_names.ensures ∙ sym c.if-has_wrong_name.ensures,
-            (ap wrong_rows c.kept_rows.ensures ∙ sym c.if-has_wrong_row.ensures, tt),
-          ),
-        ),
-        tt,
-      ),
+      ap wrong_names c.kept_names.ensures ∙ sym c.if-has_wrong_name.ensures,
+      (ap wrong_rows c.kept_rows.ensures ∙ sym c.if-has_wrong_row.ensures, tt),
     ),
-  ),
-)
+  );
+}
 
 pub returns : goal.returns
 returns c =
