@@ -1,4 +1,6 @@
 //! The address of a line, kept in place.
+#![tactic(auto)]
+
 ghost use Rattle.std.specs.Prelude.{◌≡◌, ◌≤◌, true, ◌&&◌, length, take};
 ghost use Rattle.dictionary.specs.Addresses.{sized, address_of};
 ghost use Rattle.address.specs.Kept.{kept, same};

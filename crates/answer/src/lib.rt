@@ -1,4 +1,6 @@
 //! Answers to requests: parts are added to a draft, closing it fixes its length, and only a closed answer is written.
+#![tactic(auto)]
+
 mod answer;
 mod draft;
 mod failed;

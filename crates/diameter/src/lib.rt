@@ -1,4 +1,6 @@
 //! Diameter messages, read: the header, the AVPs one after the other, and whether they are sound.
+#![tactic(auto)]
+
 pub mod avp;
 mod bytes;
 pub mod header;

@@ -1,4 +1,6 @@
 //! The e2 application: which messages are requests that a location repository answers.
+#![tactic(auto)]
+
 ghost use Rattle.std.specs.Prelude.{◌≡◌, true, false, if◌then◌else◌, Some, None, MatchOption, nat_eq};
 ghost use Rattle.diameter.specs.Headers.{body, header_of};
 ghost use Rattle.e2.specs.Checks.{checked, mis_sized};

@@ -1,4 +1,6 @@
 //! e2check: judges e2 messages, one to a line in hexadecimal, and sums up.
+#![tactic(auto)]
+
 mod line;
 mod reading;
 mod tally;

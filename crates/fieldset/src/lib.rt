@@ -1,4 +1,6 @@
 //! Sets of fields and of events, each kept in the bits of one number.
+#![tactic(auto)]
+
 mod field;
 mod fields;
 mod set;

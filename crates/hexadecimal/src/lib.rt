@@ -1,4 +1,6 @@
 //! Hexadecimal text, read into bytes.
+#![tactic(auto)]
+
 ghost use Rattle.std.specs.Prelude.{◌≡◌};
 ghost use Rattle.hexadecimal.specs.Spelling.{digit, blank};
 ghost use Rattle.hexadecimal.specs.Readings.{Decodes};

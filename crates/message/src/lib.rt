@@ -1,4 +1,6 @@
 //! What answers and notifications have in common: the AVPs that every message carries, and those that show fields.
+#![tactic(auto)]
+
 pub mod field;
 pub mod known;
 pub mod laws;

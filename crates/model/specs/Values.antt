@@ -17,7 +17,7 @@
 --     lapsed now s         the subscription has come to its end
 --     some p xs            some entry passes the test
 --     entries ps           the entries of a list of places, in the order of the places
-use Rattle.std.specs.Prelude.{ℕ, Bool, false, not, ◌&&◌, ◌||◌, List, [], ◌∷◌, set, Some, None, Option, ◌==◌, nat_le, slice_index_or, slice_set}
+use Rattle.std.specs.Prelude.{ℕ, Bool, false, not, ◌&&◌, ◌||◌, List, [], ◌∷◌, Some, None, Option, ◌==◌, nat_le, slice_index_or, slice_set}
 use Rattle.std.specs.Str.{bytes_eq}
 use Rattle.dictionary.specs.Addresses.{Address}
 use Rattle.fieldset.specs.Sets.{has}

@@ -1,4 +1,6 @@
 //! Notifications: what an application function is told of an event, written as a Push-Notification-Request.
+#![tactic(auto)]
+
 pub mod laws;
 mod notice;
 mod part;

@@ -1,4 +1,6 @@
 //! Why a call is turned down: one case for each reason, with its number and the result code of its answer.
+#![tactic(auto)]
+
 ghost use Rattle.std.specs.Prelude.{◌≡◌};
 ghost use Rattle.refusal.specs.Refusals.{number, code};
 

@@ -1,4 +1,6 @@
 //! A request read: what is asked, of which session and by whom, or the first refusal with what its answer carries.
+#![tactic(auto)]
+
 pub mod asking;
 mod finding;
 pub mod number;

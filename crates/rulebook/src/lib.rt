@@ -1,4 +1,6 @@
 //! Who may see what: the sheet of application functions, the rule books, and the view of a session.
+#![tactic(auto)]
+
 mod book;
 mod embargo;
 mod entering;

@@ -1,3 +1,5 @@
 //! Octets that are kept in place, and octets compared.
+#![tactic(auto)]
+
 pub mod compare;
 pub mod text;

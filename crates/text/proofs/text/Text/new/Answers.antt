@@ -1,4 +1,4 @@
-use Rattle.std.proofs.Common.{◌-◌, length, ◌∙◌, arith}
+use Rattle.std.proofs.Common.{◌-◌, ◌∙◌, arith}
 use Rattle.text.proofs.Fronts.{first}
 use Rattle.text.proofs.text.Text.new.Goals as goal
 
