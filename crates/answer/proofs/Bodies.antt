@@ -1,7 +1,7 @@
 -- An answer as its AVPs put end to end: sound, and read back.
 use Rattle.std.proofs.Common.{◌≡◌, ℕ, ◌<◌, ◌≤◌, Bool, true, false, cond, eqb, List, [], ◌∷◌, ◌++◌, length, sym, refl, ap, ◌∙◌, append-nil, arith}
 use lib.ListN.{length-replicate}
-use Rattle.std.specs.List.{AllByRecursion as All}
+use Rattle.std.specs.List.{AllByRecursion}
 use Rattle.std.proofs.ByRecursion.{All-append, All-map, All-weaker}
 use Rattle.refusal.specs.declared.ResultCode.{ResultCode}
 use Rattle.refusal.specs.declared.ResultCode.TheVariants.{Base, Experimental}
@@ -92,7 +92,7 @@ result_fits : (r : ResultCode) → Encodable (result_part r)
 result_fits (Base c) = one_fits 268 (bytes32 c) (omega arith) (omega arith)
 result_fits (Experimental c) = one_fits 297 (avp 266 0x40 0 (bytes32 10415) ++ avp 298 0x40 0 (bytes32 c)) (omega arith) (omega arith)
 
-fault_fits : (f : Fault) → FitsTell f → All Encodable (fault_parts f)
+fault_fits : (f : Fault) → FitsTell f → AllByRecursion Encodable (fault_parts f)
 fault_fits nothing h = tt
 fault_fits (copied a) h =
     let t = h.there in
@@ -101,7 +101,7 @@ fault_fits (copied a) h =
 fault_fits (lacks k) h = (one_fits 279 (blank k) (omega arith) (blank_le k), tt)
 
 front_fit : (session : List ℕ) (r : ResultCode) (host realm : List ℕ) → length session ≤ session_limit → length host ≤ name_limit → length realm ≤ name_limit
-    → All Encodable (front_parts session r host realm)
+    → AllByRecursion Encodable (front_parts session r host realm)
 front_fit session r host realm s h l =
     All-append Encodable (session_parts session) (application_part ∷ result_part r ∷ sender_parts host realm)
     (unless_all Encodable (eqb (length session) 0) (one 263 session) (one_fits 263 session (omega arith) (omega arith))) (
@@ -115,12 +115,12 @@ front_fit session r host realm s h l =
       ),
     )
 
-fields_fit : (values : ℕ → List ℕ) (n : ℕ) → ((k : ℕ) → k < 10 → length (values k) ≤ field_limit k) → All Encodable (field_parts values (members 10 n))
+fields_fit : (values : ℕ → List ℕ) (n : ℕ) → ((k : ℕ) → k < 10 → length (values k) ≤ field_limit k) → AllByRecursion Encodable (field_parts values (members 10 n))
 fields_fit values n h =
     All-map Encodable (λ k. field_part k (values k)) (members 10 n)
     (All-weaker (λ k. k < 10) (λ k. Encodable (field_part k (values k))) (λ k l. field_fits k (values k) (h k l)) (members 10 n) (members_below 10 n))
 
-pub parts_fit : (a : Answer) → Bounded a → All Encodable (answer_parts a)
+pub parts_fit : (a : Answer) → Bounded a → AllByRecursion Encodable (answer_parts a)
 parts_fit a b =
     All-append Encodable (front_parts a.session a.result a.host a.realm) (field_parts a.values (members 10 a.shown) ++ fault_parts a.fault)
     (front_fit a.session a.result a.host a.realm b.session b.host b.realm)

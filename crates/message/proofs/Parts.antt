@@ -1,6 +1,6 @@
 -- AVPs as values: their bytes, that they fit, and that they are sound.
 use Rattle.std.proofs.Common.{◌≡◌, ℕ, zero, suc, ◌^◌, ◌<◌, ◌≤◌, Bool, true, false, cond, eqb, List, [], ◌∷◌, ◌++◌, length, sym, refl, ap, ◌∙◌, append_assoc, append-nil, arith, length-append}
-use Rattle.std.specs.List.{AllByRecursion as All}
+use Rattle.std.specs.List.{AllByRecursion}
 use Rattle.std.proofs.ByRecursion.{All-append, All-weaker}
 use Rattle.diameter.specs.Bytes.{flagged}
 use Rattle.diameter.specs.Soundness.{sound, walk}
@@ -53,11 +53,11 @@ field_fits k xs h =
     record { code_fits = omega arith; vendor_fits = omega arith; size_fits = omega arith }
 
 -- the members of a set are below its width
-one_below : (b : Bool) (d : ℕ) → All (λ k. k < suc d) (cond b (d ∷ []) [])
+one_below : (b : Bool) (d : ℕ) → AllByRecursion (λ k. k < suc d) (cond b (d ∷ []) [])
 one_below true d = (omega arith, tt)
 one_below false d = tt
 
-pub members_below : (d n : ℕ) → All (λ k. k < d) (members d n)
+pub members_below : (d n : ℕ) → AllByRecursion (λ k. k < d) (members d n)
 unfolding members
 members_below zero n = tt
 members_below (suc d) n =
@@ -65,7 +65,7 @@ members_below (suc d) n =
     (All-weaker (λ k. k < d) (λ k. k < suc d) (λ k h. omega arith) (members d n) (members_below d n))
     (one_below (has n d) d)
 
-pub unless_all : (P : Part → Type 0) (b : Bool) (p : Part) → P p → All P (cond b [] (p ∷ []))
+pub unless_all : (P : Part → Type 0) (b : Bool) (p : Part) → P p → AllByRecursion P (cond b [] (p ∷ []))
 unless_all P true p h = tt
 unless_all P false p h = (h, tt)
 
@@ -75,7 +75,7 @@ length_sender host realm =
     let r = length_avp 296 0x40 0 realm in
     omega (arith, length-append (avp 264 0x40 0 host) (avp 296 0x40 0 realm))
 
-pub all_both : {X : Type 0} (P Q : X → Type 0) (xs : List X) → All P xs → All Q xs → All (λ x. P x × Q x) xs
+pub all_both : {X : Type 0} (P Q : X → Type 0) (xs : List X) → AllByRecursion P xs → AllByRecursion Q xs → AllByRecursion (λ x. P x × Q x) xs
 all_both P Q [] p q = tt
 all_both P Q (x ∷ xs) p q = ((p.0, q.0), all_both P Q xs p.1 q.1)
 

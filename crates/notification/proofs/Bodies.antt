@@ -1,6 +1,6 @@
 -- A notification as its AVPs put end to end: sound, read back, and within the buffer.
 use Rattle.std.proofs.Common.{◌≡◌, ℕ, ◌+◌, ◌≤◌, Bool, true, false, cond, ◌&&◌, List, [], ◌∷◌, ◌++◌, map, length, Some, None, sym, refl, ap, ◌∙◌, append_assoc, append-nil, arith}
-use Rattle.std.specs.List.{AllByRecursion as All}
+use Rattle.std.specs.List.{AllByRecursion}
 use Rattle.std.proofs.lemmas.Bool.Decides.{nat_tests}
 use Rattle.diameter.specs.Headers.{body}
 use Rattle.diameter.specs.Lists.{Avp, avps, named, only_such}
@@ -71,11 +71,11 @@ told_low e xs t = grind (arith, nat_tests)
 value_fits : (e : ℕ) (xs : List ℕ) → length xs ≤ value_limit → length xs ≤ field_limit e
 value_fits e xs h = grind (arith, nat_tests)
 
-told_all : (P : Part → Type 0) (b : Bool) (p : Part) → (b ≡ true → P p) → All P (cond b (p ∷ []) [])
+told_all : (P : Part → Type 0) (b : Bool) (p : Part) → (b ≡ true → P p) → AllByRecursion P (cond b (p ∷ []) [])
 told_all P true p h = (h refl, tt)
 told_all P false p h = tt
 
-parts_fit : (n : Notification) → Bounded n → All Encodable (notification_parts n)
+parts_fit : (n : Notification) → Bounded n → AllByRecursion Encodable (notification_parts n)
 parts_fit n b =
     let l = length_address n.address in
     let i = b.ip in
@@ -123,7 +123,7 @@ address_parts a = one 8 a.ip ∷ record { code = 301; flags = 0xC0; vendor = 130
 address_bytes : (a : Address) → address_data a ≡ parts_bytes (address_parts a)
 address_bytes a = ap (λ (l : List ℕ). avp 8 0x40 0 a.ip ++ l) (sym (append-nil (avp 301 0xC0 13019 a.realm)))
 
-address_parts_fit : (a : Address) → length a.ip ≤ address_limit → length a.realm ≤ place_limit → All Encodable (address_parts a)
+address_parts_fit : (a : Address) → length a.ip ≤ address_limit → length a.realm ≤ place_limit → AllByRecursion Encodable (address_parts a)
 address_parts_fit a i p =
     (one_fits 8 a.ip (omega arith) (omega arith), (record { code_fits = omega arith; vendor_fits = omega arith; size_fits = omega arith }, tt))
 
@@ -134,7 +134,7 @@ address_sound a i p =
     ∙ (decided 3 (parts_bytes (address_parts a))).1
     (parts_sound 3 (address_parts a) (all_both Encodable (SoundPart 3) (address_parts a) (address_parts_fit a i p) (plain refl, (plain refl, tt)))))
 
-all_sound : (n : Notification) → Bounded n → ValueSound n → All (SoundPart 4) (notification_parts n)
+all_sound : (n : Notification) → Bounded n → ValueSound n → AllByRecursion (SoundPart 4) (notification_parts n)
 all_sound n b v = (
   plain refl,
   (
