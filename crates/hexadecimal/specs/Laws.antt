@@ -11,8 +11,8 @@ abbrev pub lower : ℕ → ℕ
 lower n = cond (nat_lt n 10) (n + 0x30) (n + 0x57)
 
 abbrev pub written : (ℕ → ℕ) → List ℕ → List ℕ
-written digit-of [] = []
-written digit-of (b ∷ bs) = digit-of (b / 16) ∷ (digit-of (b % 16) ∷ written digit-of bs)
+written digit_of [] = []
+written digit_of (b ∷ bs) = digit_of (b / 16) ∷ (digit_of (b % 16) ∷ written digit_of bs)
 
 -- whatever bytes are written in digits of either case are what is read back
 abbrev pub ReadBack : Type 0

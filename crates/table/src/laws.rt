@@ -3,7 +3,7 @@ ghost use Rattle.table.specs.Laws.{ChoiceLaws, RoomCounted, ToldHere, ToldElsewh
 
 use crate::place::Place;
 
-/// The place chosen for a new entry is within, is free, and is there exactly when some place is free.
+/// The place chosen for a new entry is within, is free, is there exactly when some place is free, and hangs on nothing but which places are taken.
 pub fn choice_is_free<P: Place>()
     ensures { ChoiceLaws P.taken }
 {}
