@@ -6,7 +6,7 @@ ghost use Rattle.dictionary.specs.Addresses.{sized, address_of};
 ghost use Rattle.address.specs.Kept.{kept, same};
 
 use dictionary::address::AddressView;
-use text::compare::same_bytes;
+use table::key::same_bytes;
 use text::text::Text;
 
 /// Four bytes of an IP address, and the realm that it is unique in.

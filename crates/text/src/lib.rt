@@ -1,5 +1,4 @@
-//! Octets that are kept in place, and octets compared.
+//! Octets that are kept in place.
 #![tactic(auto)]
 
-pub mod compare;
 pub mod text;
