@@ -20,9 +20,10 @@ ALIAS = re.compile(rf"\bas ({NAME})")
 GOAL = re.compile(rf"({NAME}) : goal\.", re.M)
 
 
-# A lemma that begins with a fact of the library keeps its dash; the chosen names would else fall together with another's, or name an older word.
+# A lemma that begins with a fact of the library keeps its dash; the chosen names would else fall together with another's, name an
+# older word, or be missed as names that only a clause binds.
 KEPT = {"All-append", "All-map", "All-weaker"}
-CHOSEN = {"Nothing-waiting": "NothingIsWaiting", "getD-each": "get_or_each"}
+CHOSEN = {"Nothing-waiting": "NothingIsWaiting", "getD-each": "get_or_each", "digit-of": "digit_of"}
 
 
 def spelled(name):
@@ -60,7 +61,7 @@ def own_names(files):
 def main():
     files = sorted(p for p in pathlib.Path("crates").rglob("*") if p.suffix in (".antt", ".rt") and "out" not in p.parts)
     own, goals, every = own_names(files)
-    renamed = {n: spelled(n) for n in own}
+    renamed = {n: spelled(n) for n in own | CHOSEN.keys()}
     for old, new in sorted(renamed.items()):
         if new in every:
             print(f"respell: {old} falls together with {new}", file=sys.stderr)
