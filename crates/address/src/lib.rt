@@ -6,11 +6,10 @@ ghost use Rattle.dictionary.specs.Addresses.{sized, address_of};
 ghost use Rattle.address.specs.Kept.{kept, same};
 
 use dictionary::address::AddressView;
-use table::key::same_bytes;
 use text::text::Text;
 
 /// Four bytes of an IP address, and the realm that it is unique in.
-#[derive(Clone, Copy)]
+#[derive(Clone, Copy, PartialEq, Eq)]
 pub struct Address {
     ip: [u8; 4],
     realm: Text<32>,
@@ -28,14 +27,6 @@ impl Address {
         }
     }
 
-    /// The address that a request names. What is no address becomes some address.
-    pub fn from_view(view: AddressView<'_>) -> Address
-        ensures { (sized 4 4 view.entry.ip.now && sized 1 32 view.entry.realm.now) ≡ true → kept result ≡ address_of view.entry }
-    {
-        let AddressView { ip, realm } = view;
-        Address::new(four(ip), realm)
-    }
-
     pub fn view(&self) -> AddressView<'_>
         ensures is { address_of result ≡ kept self.now }
         ensures ip { length result.ip.now ≤ 4 }
@@ -46,22 +37,19 @@ impl Address {
             realm: self.realm.octets(),
         }
     }
+}
 
-    /// Whether two addresses are the same.
-    pub fn is_same(&self, other: &Address) -> bool
-        ensures { result ≡ same (kept self.now) (kept other.now) }
-    {
-        same_bytes(&self.ip, &other.ip) && same_bytes(self.realm.octets(), other.realm.octets())
+/// The address that a request names. What is no address becomes some address.
+impl From<AddressView<'_>> for Address {
+    ghost from_gives = { λ view r. (sized 4 4 view.ip.now && sized 1 32 view.realm.now) ≡ true → kept r ≡ address_of view };
+
+    fn from(view: AddressView<'_>) -> Address {
+        let ip = view.ip.first_chunk().map_or([0; 4], |ip| *ip);
+        Address::new(ip, view.realm)
     }
 }
 
-/// The first four bytes, where there are four.
-fn four(bytes: &[u8]) -> [u8; 4]
-    ensures { length bytes.now ≡ 4 → result ≡ bytes.now }
-{
-    if bytes.len() == 4 {
-        [bytes[0], bytes[1], bytes[2], bytes[3]]
-    } else {
-        [0; 4]
-    }
-}
+/// Two addresses are equal when both their parts are.
+pub fn equality_is_sameness()
+    ensures { (a b : Address) → ⟦<Address as PartialEq>⟧.eq a b ≡ same (kept a) (kept b) }
+{}

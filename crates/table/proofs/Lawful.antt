@@ -1,40 +1,41 @@
 -- The laws of a table.
-use Rattle.std.proofs.Common.{◌≡◌, ℕ, zero, suc, ◌+◌, ◌<◌, ◌≤◌, Bool, true, false, cond, ◌&&◌, ltb, List, [], ◌∷◌, map as each, length, get_or, replicate, is_some, Some, None, Option, sym, refl, ap, ◌∙◌, subst, inl, inr, arith}
+use Rattle.std.proofs.Common.{count_by, ◌≡◌, ℕ, zero, suc, ◌+◌, ◌<◌, ◌≤◌, Bool, true, false, cond, not, ◌&&◌, ltb, List, [], ◌∷◌, map as each, length, get_or, replicate, is_some, Some, None, Option, sym, refl, ap, ◌∙◌, subst, inl, inr, arith}
+use Rattle.std.specs.List.{position_from}
 use Rattle.std.specs.Option.{option_map}
 use Rattle.std.specs.Str.{bytes_eq}
+use Rattle.std.proofs.lemmas.List.Recursion.{is_count_by}
 use Rattle.std.proofs.lemmas.Bool.{cases_Bool, cases_lt, both_ways, and_parts, and_from, cond-true, cond-false, lt-ltb, le-ltb}
-use Rattle.table.specs.Tables.{holds, holder, at, Distinct, number, room}
-use Rattle.table.specs.Choices.{choice, choice_from}
+use Rattle.table.specs.Tables.{holds, holder, at, Distinct, number}
+use Rattle.table.specs.Choices.{choice}
 use Rattle.table.specs.Steps.{counted}
 use Rattle.table.specs.Laws.{ChoiceLaws, RoomCounted, ToldHere, ToldElsewhere, FreedServes, Apart, DistinctMeans, NumberOfMap, EmptyTable}
 use Rattle.table.proofs.Keys.{same_true, same_refl, same_from}
-use Rattle.table.proofs.Places.{some_mapped}
+use Rattle.table.proofs.Places.{some_mapped, some_placed}
 use Rattle.table.proofs.Maps.{held_known, distinct_head, distinct_tail}
 
 module _ {P : Type 0} (taken : P → Bool) where
-  chosen_there : (n : ℕ) (ps : List P) → is_some (choice_from taken n ps) ≡ room taken ps
-  chosen_there n [] = refl
-  chosen_there n (p ∷ ps) = elim (cases_Bool (taken p)) [ inl h ↦ simp h (chosen_there (n + 1) ps) | inr h ↦ simp h ]
-
-  chosen : (ps : List P) (n j : ℕ) → choice_from taken n ps ≡ Some j → (i : ℕ) × (j ≡ n + i) × (i < length ps) × ((d : P) → taken (get_or ps i d) ≡ false)
+  chosen : (ps : List P) (n j : ℕ) → position_from (λ p. not (taken p)) n ps ≡ Some j → (i : ℕ) × (j ≡ n + i) × (i < length ps) × ((d : P) → taken (get_or ps i d) ≡ false)
   chosen [] n j e = let z : ◌≡◌ {A = ℕ} 0 1 = cc in absurd (omega arith)
   chosen (p ∷ ps) n j e =
       elim (cases_Bool (taken p)) [
         | inl h ↦
-            let r = chosen ps (n + 1) j (sym (cond-true (taken p) (choice_from taken (n + 1) ps) (Some n) h) ∙ e) in
+            let full = ap not h in
+            let r = chosen ps (n + 1) j (sym (cond-false (not (taken p)) (Some n) (position_from (λ p. not (taken p)) (n + 1) ps) full) ∙ e) in
             (suc r.0, omega (arith, r.1), omega (arith, r.2), λ d. r.3 d)
-        | inr h ↦ (0, (let s : n ≡ j = cc (cond-false (taken p) (choice_from taken (n + 1) ps) (Some n) h) in omega arith), omega arith, λ d. h)
+        | inr h ↦
+            let room = ap not h in
+            (0, (let s : n ≡ j = cc (cond-true (not (taken p)) (Some n) (position_from (λ p. not (taken p)) (n + 1) ps) room) in omega arith), omega arith, λ d. h)
       ]
 
-  chosen_marks : (n : ℕ) (ps : List P) → choice_from taken n ps ≡ choice_from (λ b. b) n (each taken ps)
+  chosen_marks : (n : ℕ) (ps : List P) → position_from (λ p. not (taken p)) n ps ≡ position_from not n (each taken ps)
   chosen_marks n [] = refl
-  chosen_marks n (p ∷ ps) = ap (λ o. cond (taken p) o (Some n)) (chosen_marks (n + 1) ps)
+  chosen_marks n (p ∷ ps) = ap (λ o. cond (not (taken p)) (Some n) o) (chosen_marks (n + 1) ps)
 
   pub choice_laws : ChoiceLaws taken
   unfolding choice
   choice_laws =
       record {
-        there = λ ps. chosen_there 0 ps;
+        there = λ ps. some_placed (λ p. not (taken p)) 0 ps;
         within = λ ps i e. let r = chosen ps 0 i e in omega (arith, r.1, r.2);
         free = λ ps i d e.
             let r = chosen ps 0 i e in
@@ -42,6 +43,9 @@ module _ {P : Type 0} (taken : P → Bool) where
             subst (λ (j : ℕ). taken (get_or ps j d) ≡ false) same (r.3 d);
         marks = λ ps. chosen_marks 0 ps;
       }
+
+  pub number_counts : (ps : List P) → number taken ps ≡ count_by taken ps
+  number_counts ps = is_count_by (number taken) taken refl (λ p qs. elim (cases_Bool (taken p)) [ inl h ↦ simp h refl | inr h ↦ simp h (omega arith) ]) ps
 
   pub number_within : (ps : List P) → number taken ps ≤ length ps
   number_within [] = omega arith

@@ -1,5 +1,5 @@
 -- What a place put where another stood does to the map.
-use Rattle.std.proofs.Common.{◌≡◌, ℕ, zero, suc, ◌+◌, ◌<◌, Bool, true, false, cond, ◌&&◌, ◌⊎◌, List, [], ◌∷◌, length, get_or, set, is_some, Some, None, Option, sym, refl, ap, ◌∙◌, subst, inl, inr, arith}
+use Rattle.std.proofs.Common.{IfSome, ◌≡◌, ℕ, zero, suc, ◌+◌, ◌<◌, Bool, true, false, cond, ◌&&◌, ◌⊎◌, List, [], ◌∷◌, length, get_or, set, is_some, Some, None, Option, sym, refl, ap, ◌∙◌, subst, inl, inr, arith}
 use Rattle.std.specs.Option.{option_map}
 use Rattle.std.specs.Map.{update}
 use Rattle.std.specs.Str.{bytes_eq}
@@ -62,6 +62,11 @@ module _ {P : Type 0} (taken : P → Bool) (key : P → List ℕ) where
   held_alone k (p ∷ ps) (suc i) d inside h apart =
       let not_here = alone_before k p ps apart (held_known k ps i d (omega arith) h) in
       simp not_here (held_alone k ps i d (omega arith) h (distinct_tail p ps apart))
+
+  pub alone_at : (k : List ℕ) (ps : List P) (r : Option ℕ) → IfSome r (λ i. i < length ps) → IfSome r (λ i. (d : P) → holds taken key k (get_or ps i d) ≡ true)
+      → Distinct taken key ps → IfSome r (λ i. (d : P) → holder taken key ps k ≡ Some (get_or ps i d))
+  alone_at k ps None within held apart = tt
+  alone_at k ps (Some i) within held apart = λ d. held_alone k ps i d within (held d) apart
 
   other_key : (p : P) (k n : List ℕ) → (taken p ≡ true → key p ≡ k) → bytes_eq n k ≡ false → holds taken key n p ≡ false
   other_key p k n under s =

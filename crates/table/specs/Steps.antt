@@ -5,11 +5,11 @@
 --     filled m v xs           v stands at the place m, if there is one
 --     with_held .. k g ps     what the places hold, but g of the place that holds k instead of its entry
 --     insertion known free    the answer to an insertion: the key is known, some place is free
-use Rattle.std.specs.Prelude.{◌≡◌, ℕ, ◌+◌, Bool, cond, List, map as each, length, is_some, Some, None, Option, slice_set}
+use Rattle.std.specs.Prelude.{◌≡◌, ℕ, ◌+◌, Bool, cond, List, map as each, length, is_some, Some, None, Ok, Err, Option, Result, slice_set}
 use Rattle.std.specs.Map.{update}
 use Rattle.std.specs.Str.{bytes_eq}
-use Rattle.table.specs.declared.step.Insertion.{Insertion}
-use Rattle.table.specs.declared.step.Insertion.TheVariants.{Placed, Present, Full}
+use Rattle.table.specs.declared.step.InsertError.{InsertError}
+use Rattle.table.specs.declared.step.InsertError.TheVariants.{Present, Full}
 use Rattle.table.specs.Tables.{holds, at, content, Distinct, number}
 
 abbrev pub counted : {E : Type 0} → Option E → ℕ
@@ -32,5 +32,5 @@ filled (Some i) v xs = slice_set xs i v
 abbrev pub with_held : {P E : Type 0} → (P → Bool) → (P → List ℕ) → (P → E) → List ℕ → (P → Option E) → List P → List (Option E)
 with_held taken key entry k g ps = each (λ p. cond (holds taken key k p) (g p) (content taken entry p)) ps
 
-abbrev pub insertion : Bool → Bool → Insertion
-insertion known free = cond known Present (cond free Placed Full)
+abbrev pub insertion : Bool → Bool → Result (Unit {0}) InsertError
+insertion known free = cond known (Err Present) (cond free (Ok tt) (Err Full))

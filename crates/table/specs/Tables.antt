@@ -7,7 +7,8 @@
 --     distinct, Distinct       no two taken places have the same key
 --     number taken ps          how many places are taken
 --     room taken ps            some place is free
-use Rattle.std.specs.Prelude.{◌≡◌, ℕ, ◌+◌, Bool, true, false, cond, ◌&&◌, List, [], ◌∷◌, map, is_some, Some, None, Option}
+use Rattle.std.specs.Prelude.{◌≡◌, ℕ, ◌+◌, Bool, true, false, cond, not, ◌&&◌, List, [], ◌∷◌, map, is_some, Some, None, Option}
+use Rattle.std.specs.List.{find, list_any}
 use Rattle.std.specs.Option.{option_map}
 use Rattle.std.specs.Str.{bytes_eq}
 
@@ -15,8 +16,7 @@ abbrev pub holds : {P : Type 0} → (P → Bool) → (P → List ℕ) → List �
 holds taken key k p = taken p && bytes_eq (key p) k
 
 abbrev pub holder : {P : Type 0} → (P → Bool) → (P → List ℕ) → List P → List ℕ → Option P
-holder taken key [] k = None
-holder taken key (p ∷ ps) k = cond (holds taken key k p) (Some p) (holder taken key ps k)
+holder taken key ps k = find (holds taken key k) ps
 
 abbrev pub at : {P E : Type 0} → (P → Bool) → (P → List ℕ) → (P → E) → List P → List ℕ → Option E
 at taken key entry ps k = option_map entry (holder taken key ps k)
@@ -40,5 +40,4 @@ number taken [] = 0
 number taken (p ∷ ps) = cond (taken p) 1 0 + number taken ps
 
 abbrev pub room : {P : Type 0} → (P → Bool) → List P → Bool
-room taken [] = false
-room taken (p ∷ ps) = cond (taken p) (room taken ps) true
+room taken ps = list_any (λ p. not (taken p)) ps

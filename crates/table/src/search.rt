@@ -12,12 +12,7 @@ pub fn find<P: Place>(places: &[P], sought: &P::Key) -> Option<usize>
     ensures held { IfSome result (λ i. (d : P) → holds P.taken P.key (P.spelt sought.now) (slice_index_or places.now i d) ≡ true) }
     ensures alone { Distinct P.taken P.key places.now → IfSome result (λ i. (d : P) → holder P.taken P.key places.now (P.spelt sought.now) ≡ Some (slice_index_or places.now i d)) }
 {
-    for (i, place) in places.iter().enumerate() {
-        if place.is_at(sought) {
-            return Some(i);
-        }
-    }
-    None
+    places.iter().position(|place| place.is_at(sought))
 }
 
 /// A free place for a new entry, if there is any.
@@ -27,23 +22,12 @@ pub fn free_place<P: Place>(places: &[P]) -> Option<usize>
     ensures within { IfSome result (λ i. i < length places.now) }
     ensures free { IfSome result (λ i. (d : P) → P.taken (slice_index_or places.now i d) ≡ false) }
 {
-    for (i, place) in places.iter().enumerate() {
-        if place.is_free() {
-            return Some(i);
-        }
-    }
-    None
+    places.iter().position(|place| place.is_free())
 }
 
 /// How many places are taken.
 pub fn count<P: Place>(places: &[P]) -> usize
     ensures { result ≡ number P.taken places.now }
 {
-    let mut count = 0;
-    for place in places {
-        if !place.is_free() {
-            count += 1;
-        }
-    }
-    count
+    places.iter().filter(|place| !place.is_free()).count()
 }

@@ -1,5 +1,5 @@
 //! Steps of a table: an entry put in, taken out, or changed where it stands.
-ghost use Rattle.std.specs.Prelude.{◌≡◌, true, false, map, is_some, None, ◌≢◌};
+ghost use Rattle.std.specs.Prelude.{◌≡◌, true, false, map, is_some, None, OnOk, OnErr};
 ghost use Rattle.table.specs.Choices.{choice};
 ghost use Rattle.table.specs.Laws.{Swept};
 ghost use Rattle.table.specs.Tables.{holder, at, content, contents, Distinct, room};
@@ -7,34 +7,30 @@ ghost use Rattle.table.specs.Steps.{Updated, changed_content, filled, with_held,
 
 use crate::place::{Change, Place};
 use crate::search::{find, free_place};
+use thiserror::Error;
 
-/// What became of an entry that was to be put in.
-#[derive(Clone, Copy, PartialEq, Eq, Debug)]
-pub enum Insertion {
-    Placed,
-    /// The table has the key already.
+/// Why an entry is not put in.
+#[derive(Clone, Copy, PartialEq, Eq, Debug, Error)]
+pub enum InsertError {
+    #[error("the key is in the table")]
     Present,
-    /// No place is free.
+    #[error("no place is free")]
     Full,
 }
 
 /// Puts an entry in, given as the place that it is to be.
-pub fn insert<P: Place + Drop>(places: &mut [P], place: P) -> Insertion
+pub fn insert<P: Place + Drop>(places: &mut [P], place: P) -> Result<(), InsertError>
     ensures answer { result ≡ insertion (is_some (at P.taken P.key P.entry places.old (P.key place))) (room P.taken places.old) }
-    ensures law { result ≡ Insertion.Placed → Distinct P.taken P.key places.old → Updated P.taken P.key P.entry places.old places.new (P.key place) (content P.taken P.entry place) }
-    ensures places { result ≡ Insertion.Placed → contents P.taken P.entry places.new ≡ filled (choice P.taken places.old) (content P.taken P.entry place) (contents P.taken P.entry places.old) }
-    ensures refused { (result ≢ Insertion.Placed) → places.new ≡ places.old }
+    ensures law { OnOk result (Distinct P.taken P.key places.old → Updated P.taken P.key P.entry places.old places.new (P.key place) (content P.taken P.entry place)) }
+    ensures places { OnOk result (contents P.taken P.entry places.new ≡ filled (choice P.taken places.old) (content P.taken P.entry place) (contents P.taken P.entry places.old)) }
+    ensures refused { OnErr result (places.new ≡ places.old) }
 {
     if find(places, place.own_key()).is_some() {
-        return Insertion::Present;
+        return Err(InsertError::Present);
     }
-    match free_place(places) {
-        Some(i) => {
-            places[i] = place;
-            Insertion::Placed
-        }
-        None => Insertion::Full,
-    }
+    let i = free_place(places).ok_or(InsertError::Full)?;
+    places[i] = place;
+    Ok(())
 }
 
 /// Takes the entry under the key out; false where there is none.

@@ -1,56 +1,43 @@
 //! Two kinds of places, with all that each owes.
-ghost use Rattle.std.specs.Prelude.{◌≡◌, ℕ, min, true, false, take, if◌then◌else◌, None, Option, nat_eq};
-ghost use Rattle.table.specs.declared.tests.State.TheVariants.{Free, Live};
+ghost use Rattle.std.specs.Prelude.{ℕ, if◌then◌else◌, is_some, unwrap_or, Some, None, Option, nat_eq};
+ghost use Rattle.text.specs.Texts.{said};
 
-use crate::key::same_bytes;
 use crate::place::{Change, Place};
 use crate::search::{count, find};
-use crate::step::{Insertion, change, insert, remove, sweep};
+use crate::step::{InsertError, change, insert, remove, sweep};
+use text::text::Text;
 
-/// A name of at most eight bytes.
-#[derive(Clone, Copy)]
-struct Name {
-    bytes: [u8; 8],
-    len: usize,
-}
-
-impl Name {
-    fn spelling(&self) -> &[u8]
-        ensures { result.now ≡ take (min self.now.len 8) self.now.bytes }
-    {
-        &self.bytes[0..self.len.min(8)]
-    }
-}
-
+/// A place for a guest, under a name of at most eight bytes.
+// A flag beside the values: a place shows its key also while it is free, which an `Option` of the guest would not hold.
 #[derive(Clone, Copy)]
 struct Session {
     taken: bool,
-    name: Name,
+    name: Text<8>,
     visits: u64,
 }
 
 impl Place for Session {
-    type Key = Name;
+    type Key = Text<8>;
 
     ghost Entry = { ℕ };
 
     ghost taken = { λ p. p.taken };
 
-    ghost key = { λ p. take (min p.name.len 8) p.name.bytes };
+    ghost key = { λ p. said p.name };
 
     ghost entry = { λ p. p.visits };
 
-    ghost spelt = { λ n. take (min n.len 8) n.bytes };
+    ghost spelt = { said };
 
     fn is_free(&self) -> bool {
         !self.taken
     }
 
-    fn is_at(&self, sought: &Name) -> bool {
-        self.taken && same_bytes(self.name.spelling(), sought.spelling())
+    fn is_at(&self, sought: &Text<8>) -> bool {
+        self.taken && self.name == *sought
     }
 
-    fn own_key(&self) -> &Name {
+    fn own_key(&self) -> &Text<8> {
         &self.name
     }
 
@@ -60,15 +47,10 @@ impl Place for Session {
 }
 
 #[derive(Clone, Copy)]
-enum State {
-    Free,
-    Live { events: u16, end: Option<u64> },
-}
-
-#[derive(Clone, Copy)]
 struct Watch {
     address: [u8; 4],
-    state: State,
+    /// The events that are watched and the end, while the place is taken.
+    live: Option<(u16, Option<u64>)>,
 }
 
 impl Place for Watch {
@@ -76,23 +58,20 @@ impl Place for Watch {
 
     ghost Entry = { ℕ × Option ℕ };
 
-    ghost taken = { λ p. elim p.state [ Free ↦ false | Live events end ↦ true ] };
+    ghost taken = { λ p. is_some p.live };
 
     ghost key = { λ p. p.address };
 
-    ghost entry = { λ p. elim p.state [ Free ↦ (0, None) | Live events end ↦ (events, end) ] };
+    ghost entry = { λ p. unwrap_or p.live (0, None) };
 
     ghost spelt = { λ a. a };
 
     fn is_free(&self) -> bool {
-        match self.state {
-            State::Free => true,
-            State::Live { events: _, end: _ } => false,
-        }
+        self.live.is_none()
     }
 
     fn is_at(&self, sought: &[u8; 4]) -> bool {
-        !self.is_free() && same_bytes(&self.address, sought)
+        self.live.is_some() && self.address == *sought
     }
 
     fn own_key(&self) -> &[u8; 4] {
@@ -100,7 +79,7 @@ impl Place for Watch {
     }
 
     fn clear(&mut self) {
-        self.state = State::Free;
+        self.live = None;
     }
 }
 
@@ -111,27 +90,21 @@ struct Renewal {
 }
 
 impl Change<Renewal> for Watch {
-    ghost changed = { λ n p. record { address = p.address; state = (if nat_eq n.events 0 then Free else Live n.events n.end) } };
+    ghost changed = { λ n p. record { address = p.address; live = (if nat_eq n.events 0 then None else Some (n.events, n.end)) } };
 
     fn change(&mut self, how: &Renewal) {
-        if how.events == 0 {
-            self.state = State::Free;
+        self.live = if how.events == 0 {
+            None
         } else {
-            self.state = State::Live {
-                events: how.events,
-                end: how.end,
-            };
-        }
+            Some((how.events, how.end))
+        };
     }
 }
 
 fn visitor(letter: u8) -> Session {
     Session {
         taken: true,
-        name: Name {
-            bytes: [letter; 8],
-            len: 3,
-        },
+        name: Text::new(&[letter; 3]),
         visits: 0,
     }
 }
@@ -142,13 +115,13 @@ fn sessions_come_and_go(rt: HostRuntime) {
         taken: false,
         ..visitor(0)
     }; 2];
-    assert_eq!(rt; insert(&mut places, visitor(1)), Insertion::Placed);
-    assert_eq!(rt; insert(&mut places, visitor(1)), Insertion::Present);
-    assert_eq!(rt; insert(&mut places, visitor(2)), Insertion::Placed);
-    assert_eq!(rt; insert(&mut places, visitor(3)), Insertion::Full);
+    assert_eq!(rt; insert(&mut places, visitor(1)), Ok(()));
+    assert_eq!(rt; insert(&mut places, visitor(1)), Err(InsertError::Present));
+    assert_eq!(rt; insert(&mut places, visitor(2)), Ok(()));
+    assert_eq!(rt; insert(&mut places, visitor(3)), Err(InsertError::Full));
     assert!(rt; remove(&mut places, &visitor(1).name));
     assert!(rt; !remove(&mut places, &visitor(1).name));
-    assert_eq!(rt; insert(&mut places, visitor(3)), Insertion::Placed);
+    assert_eq!(rt; insert(&mut places, visitor(3)), Ok(()));
     assert!(rt; find(&places, &visitor(2).name).is_some());
 }
 
@@ -156,16 +129,13 @@ fn sessions_come_and_go(rt: HostRuntime) {
 fn watches_are_changed_in_place(rt: HostRuntime) {
     let mut places = [Watch {
         address: [0; 4],
-        state: State::Free,
+        live: None,
     }; 16];
     let watch = Watch {
         address: [10, 0, 0, 1],
-        state: State::Live {
-            events: 1,
-            end: None,
-        },
+        live: Some((1, None)),
     };
-    assert_eq!(rt; insert(&mut places, watch), Insertion::Placed);
+    assert_eq!(rt; insert(&mut places, watch), Ok(()));
     assert!(rt;
         change(
             &mut places,
@@ -192,13 +162,9 @@ fn watches_are_changed_in_place(rt: HostRuntime) {
 
 #[test]
 fn a_sweep_reaches_every_watch(rt: HostRuntime) {
-    let state = State::Live {
-        events: 6,
-        end: None,
-    };
     let mut places = [Watch {
         address: [0; 4],
-        state,
+        live: Some((6, None)),
     }; 2];
     places[1].address = [10, 0, 0, 7];
     assert_eq!(rt; count(&places), 2);

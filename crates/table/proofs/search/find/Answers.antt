@@ -1,33 +1,23 @@
-use Rattle.table.proofs.Places.{held_here, known_here, known_later, known_none}
-use Rattle.table.proofs.Maps.{held_alone}
+use Rattle.std.proofs.Common.{rules, ◌≡◌, ◌<◌, true, IfSome, length, slice_index_or}
+use Rattle.std.proofs.lemmas.Iterator.{YieldsList-from_slice}
+use Rattle.std.proofs.lemmas.Iterator.Search.{position_from_yields_List}
+use Rattle.table.specs.Tables.{holds}
+use Rattle.table.proofs.Places.{known_at}
+use Rattle.table.proofs.Maps.{alone_at}
 use Rattle.table.proofs.search.find.Goals as goal
 
-pub returns-then-is_at : goal.returns-then-is_at
-returns-then-is_at g c =
+pub returns-clause-known : goal.returns-clause-known
+returns-clause-known g c =
+    let m = g.P.Place in
+    let k = m.spelt c.args.sought.now in
+    let first = position_from_yields_List (holds m.taken m.key k) _ _ c.position.result c.position.ensures.ran (YieldsList-from_slice c.args.places.now c.iter.ensures.rest) (λ x b q k. search rules) in
+    known_at m.taken m.key c.args.places.now k m.entry c.position.result first
+
+pub returns-clause-alone : goal.returns-clause-alone
+returns-clause-alone g c =
     let m = g.P.Place in
     let k = m.spelt c.args.sought.now in
     let ps = c.args.places.now in
-    let i = c.loop-i.i in
-    let inside = c.loop-i-test.true in
-    let held = held_here ps i c.index-places-i.result c.index-places-i.is inside m.taken m.key k c.if-is_at.ensures in
-    record {
-      known = known_here ps i c.index-places-i.result c.index-places-i.is inside m.taken m.key k m.entry c.if-is_at.ensures c.loop-i.invariant;
-      within = inside;
-      held = held;
-      alone = λ apart d. held_alone m.taken m.key k ps i d inside (held d) apart;
-    }
-
-pub loop-i-preserved : goal.loop-i-preserved
-loop-i-preserved g c =
-    let m = g.P.Place in
-    known_later c.args.places.now c.loop-i.i c.index-places-i.result c.index-places-i.is c.loop-i-test.true m.taken m.key (m.spelt c.args.sought.now) c.if-is_at.ensures c.loop-i.invariant
-
-pub returns : goal.returns
-returns g c =
-    let m = g.P.Place in
-    record {
-      known = known_none m.taken c.args.places.now c.loop-i.i c.loop-i-test.false m.key m.entry (m.spelt c.args.sought.now) c.loop-i.invariant;
-      within = tt;
-      held = tt;
-      alone = λ _. tt;
-    }
+    let within : IfSome c.position.result (λ i. i < length ps) = search rules in
+    let held : IfSome c.position.result (λ i. (d : g.row.P.Denot) → holds m.taken m.key k (slice_index_or ps i d) ≡ true) = search rules in
+    alone_at m.taken m.key k ps c.position.result within held
