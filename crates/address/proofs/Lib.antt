@@ -1,2 +1,2 @@
 pub mod Spelt
-pub mod Fours
+pub mod Sizes

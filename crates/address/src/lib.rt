@@ -3,7 +3,9 @@
 
 ghost use Rattle.std.specs.Prelude.{◌≡◌, ◌≤◌, true, ◌&&◌, length, take};
 ghost use Rattle.dictionary.specs.Addresses.{sized, address_of};
-ghost use Rattle.address.specs.Kept.{kept, same};
+ghost use Rattle.std.specs.Str.{bytes_eq};
+ghost use Rattle.dictionary.specs.Addresses.{Address as Meant};
+ghost use Rattle.address.specs.Kept.{kept, same, spelling};
 
 use dictionary::address::AddressView;
 use text::text::Text;
@@ -44,7 +46,7 @@ impl From<AddressView<'_>> for Address {
     ghost from_gives = { λ view r. (sized 4 4 view.ip.now && sized 1 32 view.realm.now) ≡ true → kept r ≡ address_of view };
 
     fn from(view: AddressView<'_>) -> Address {
-        let ip = view.ip.first_chunk().map_or([0; 4], |ip| *ip);
+        let ip = view.ip.try_into().unwrap_or([0; 4]);
         Address::new(ip, view.realm)
     }
 }
@@ -52,4 +54,9 @@ impl From<AddressView<'_>> for Address {
 /// Two addresses are equal when both their parts are.
 pub fn equality_is_sameness()
     ensures { (a b : Address) → ⟦<Address as PartialEq>⟧.eq a b ≡ same (kept a) (kept b) }
+{}
+
+/// Two addresses have the same key exactly when they are the same.
+pub fn spelling_tells_apart()
+    ensures { (p q : Meant) → bytes_eq (spelling p) (spelling q) ≡ same p q }
 {}
