@@ -1,5 +1,5 @@
 -- A text, one character at a time.
-use Rattle.std.proofs.Common.{◌≡◌, ℕ, ◌+◌, ◌<◌, ◌≤◌, true, false, cond, List, [], ◌∷◌, ◌++◌, length, get_or, take, drop, Some, None, Option, sym, ap, ◌∙◌, append_assoc, arith, length-take}
+use Rattle.std.proofs.Common.{is_some, true≢false, refl, ◌≡◌, ℕ, ◌+◌, ◌<◌, ◌≤◌, true, false, cond, List, [], ◌∷◌, ◌++◌, length, get_or, take, drop, Some, None, Option, sym, ap, ◌∙◌, append_assoc, arith, length-take}
 use Rattle.std.proofs.lemmas.List.{drop_more, drop_all, take-append-le}
 use Rattle.std.proofs.lemmas.Bool.Decides.{nat_tests}
 use Rattle.hexadecimal.specs.Spelling.{Spelled, digit, blank, after, completed, waiting, ended, by_digit, spelled}
@@ -56,3 +56,11 @@ pub begins_still : (old items more : List ℕ) → take (length old) items ≡ o
 begins_still old items more e =
     let l : length old ≤ length items = omega (arith, simp length-take at (ap length e)) in
     take-append-le (length old) items more l ∙ e
+
+pub ended_some : (k : ℕ) (high : Option ℕ) → is_some high ≡ true → ended k high ≡ Some k
+ended_some k None s = absurd (true≢false (sym s))
+ended_some k (Some d) s = refl
+
+pub ended_none : (k : ℕ) (high : Option ℕ) → is_some high ≡ false → ended k high ≡ None
+ended_none k None s = refl
+ended_none k (Some d) s = absurd (true≢false s)

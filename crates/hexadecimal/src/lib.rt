@@ -5,14 +5,27 @@ ghost use Rattle.std.specs.Prelude.{◌≡◌};
 ghost use Rattle.hexadecimal.specs.Spelling.{digit, blank};
 ghost use Rattle.hexadecimal.specs.Readings.{Decodes};
 ghost use Rattle.hexadecimal.specs.Laws.{ReadBack};
+ghost use Rattle.hexadecimal.specs.declared.DecodeError.TheVariants.{NoMemory};
+
+use std::alloc::AllocFailed;
+use thiserror::Error;
 
 /// Why a text is not read to its end.
-#[derive(Clone, Copy, PartialEq, Eq, Debug)]
+#[derive(Clone, Copy, PartialEq, Eq, Debug, Error)]
 pub enum DecodeError {
     /// In this column, counted from 1, stands no digit, or the text ends where a second digit is due.
+    #[error("not hexadecimal at column {0}")]
     NotHex(usize),
-    /// There is no memory for the bytes.
+    #[error("no memory for the bytes")]
     NoMemory,
+}
+
+impl<T: Drop> From<AllocFailed<T>> for DecodeError {
+    ghost from_gives = { λ _ e. e ≡ NoMemory };
+
+    fn from(_failed: AllocFailed<T>) -> DecodeError {
+        DecodeError::NoMemory
+    }
 }
 
 /// What a character says as a hexadecimal digit, in either case.
@@ -48,17 +61,15 @@ pub fn decode(text: &[u8], out: &mut Vec<u8>) -> Result<(), DecodeError>
         match high {
             None => high = Some(digit),
             Some(first) => {
-                if out.push(first * 16 + digit).is_err() {
-                    return Err(DecodeError::NoMemory);
-                }
+                out.push(first * 16 + digit)?;
                 high = None;
             }
         }
     }
-    match high {
-        None => Ok(()),
-        Some(_) => Err(DecodeError::NotHex(text.len() + 1)),
+    if high.is_some() {
+        return Err(DecodeError::NotHex(text.len() + 1));
     }
+    Ok(())
 }
 
 /// Bytes that are written in digits are read back as they were.

@@ -1,12 +1,8 @@
-use Rattle.std.proofs.Common.{◌≡◌, ℕ, ◌+◌, ◌*◌, ◌<◌, ◌≤◌, Bool, cond, List, [], ◌∷◌, ◌++◌, length, get_or, take, drop, Some, None, vec_items, Option, sym, refl, ap, ◌∙◌, subst, append-nil, arith}
-use Rattle.std.proofs.lemmas.List.{take_all}
+use Rattle.std.proofs.Common.{◌≡◌, ℕ, ◌+◌, ◌<◌, ◌≤◌, List, [], ◌++◌, length, get_or, take, drop, Some, None, vec_items, Option, sym, ap, ◌∙◌, subst, append-nil, arith}
 use Rattle.hexadecimal.specs.Spelling.{Spelled, spelled, after, completed, waiting, ended}
-use Rattle.hexadecimal.proofs.Turns.{Small, begins_still, digit_read, digit_small, spelled_blank, spelled_fault, spelled_end}
+use Rattle.hexadecimal.proofs.Turns.{ended_some, ended_none, Small, begins_still, digit_read, digit_small, spelled_blank, spelled_fault, spelled_end}
 use Rattle.hexadecimal.proofs.decode.Goals as goal
-use Rattle.hexadecimal.proofs.decode.Goals.{in-None, in-Some-high+else-is_err}
-
-pub loop-i-init : goal.loop-i-init
-loop-i-init c = (refl, take_all _ (vec_items c.args.out.now) (omega arith), tt)
+use Rattle.hexadecimal.proofs.decode.Goals.{in-None, in-Some-high+in_ok-push-in-Some-high}
 
 pub loop-i-preserved-then-is_blank : goal.loop-i-preserved-then-is_blank
 loop-i-preserved-then-is_blank c = (
@@ -37,11 +33,10 @@ loop-i-preserved c =
             ap (take (length old)) more ∙ begins_still old items _ c.loop-i.invariant.1,
             subst Small (sym w.high-is) small,
           ))
-      | in-Some-high+else-is_err w ↦
+      | in-Some-high+in_ok-push-in-Some-high w ↦
           (let more : vec_items c.match-high.out ≡ items ++ completed c.loop-i.high d =
           ap vec_items w.out-is
-          ∙ w.push.ensures.items
-          ∙ ap (λ (b : Bool). cond b (items ++ (w.in-Some-high.first * 16 + d) ∷ []) items) w.if-is_err.ensures.negation
+          ∙ w.in_ok-push-in-Some-high.ensures.items
           ∙ ap (λ (o : Option ℕ). items ++ completed o d) (sym w.in-Some-high.is) in (
             turn _ _ more (w.high-is ∙ ap (λ (o : Option ℕ). waiting o d) (sym w.in-Some-high.is)) ∙ c.loop-i.invariant.0,
             ap (take (length old)) more ∙ begins_still old items _ c.loop-i.invariant.1,
@@ -56,13 +51,13 @@ module _ (text old items : List ℕ) (high : Option ℕ) (i : ℕ) (e : length t
       let p : after items (record { bytes = []; fault = ended (i + 1) high }) ≡ after old (spelled 1 None text) = sym (ap (after items) (spelled_end text high i e)) ∙ inv in
       (sym (append-nil items) ∙ ap (λ (s : Spelled). s.bytes) p, sym (ap (λ (s : Spelled). s.fault) p))
 
-pub returns-in-None-high : goal.returns-in-None-high
-returns-in-None-high c =
+pub returns : goal.returns
+returns c =
     let p = at_end c.args.text.now (vec_items c.args.out.now) (vec_items c.loop-i.out) c.loop-i.high c.loop-i.i (omega arith) c.loop-i.invariant.0 in
-    (p.0, p.1 ∙ ap (ended (c.loop-i.i + 1)) c.in-None-high.is)
+    (p.0, p.1 ∙ ended_none (c.loop-i.i + 1) c.loop-i.high (sym c.is_some.ensures ∙ c.if-is_some.false))
 
-pub returns-in-Some-high-2 : goal.returns-in-Some-high-2
-returns-in-Some-high-2 c =
+pub returns-then-is_some : goal.returns-then-is_some
+returns-then-is_some c =
     let p = at_end c.args.text.now (vec_items c.args.out.now) (vec_items c.loop-i.out) c.loop-i.high c.loop-i.i (omega arith) c.loop-i.invariant.0 in
     let k : c.loop-i.i ≡ length c.args.text.now = omega arith in
-    (p.0, p.1 ∙ ap (ended (c.loop-i.i + 1)) c.in-Some-high-2.is ∙ ap (λ (n : ℕ). Some (n + 1)) k)
+    (p.0, p.1 ∙ ended_some (c.loop-i.i + 1) c.loop-i.high (sym c.is_some.ensures ∙ c.if-is_some.true) ∙ ap (λ (n : ℕ). Some (n + 1)) k)
