@@ -8,6 +8,7 @@ ghost use Rattle.e2.specs.Checks.{checked, mis_sized};
 use diameter::header::{Header, split_header};
 use diameter::sound::is_sound;
 use refusal::Refusal;
+use std::fmt;
 
 /// The application identifier of e2.
 pub const APPLICATION: u32 = 16777231;
@@ -35,6 +36,16 @@ impl Command {
             308 => Some(Command::SubscribeNotifications),
             _ => None,
         }
+    }
+}
+
+/// The short name of the request.
+impl fmt::Display for Command {
+    fn fmt<W: fmt::Write>(&self, f: &mut fmt::Formatter<W>) -> fmt::Result {
+        f.write_str(match self {
+            Command::UserData => "UDR",
+            Command::SubscribeNotifications => "SNR",
+        })
     }
 }
 

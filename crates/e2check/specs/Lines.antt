@@ -1,7 +1,8 @@
 -- What is said of a line of input.
 --     content line   the line up to its comment, which `#` begins, or to its end
 --     judged line    what is said of it
-use Rattle.std.specs.Prelude.{ℕ, Bool, true, false, cond, ◌||◌, List, [], ◌∷◌, length, Some, None, Ok, Err, Option, Result, ◌==◌}
+use Rattle.std.specs.Prelude.{ℕ, Bool, true, false, cond, not, ◌||◌, List, length, Some, None, Ok, Err, Option, Result, ◌==◌}
+use Rattle.std.specs.List.{take_while}
 use Rattle.refusal.specs.declared.Refusal.{Refusal}
 use Rattle.hexadecimal.specs.Spelling.{spelled}
 use Rattle.request.specs.Askings.{Asking, Rejected}
@@ -10,9 +11,8 @@ use Rattle.e2.specs.declared.Command.{Command}
 use Rattle.e2check.specs.declared.line.Judged.{Judged}
 use Rattle.e2check.specs.declared.line.Judged.TheVariants.{Nothing, Sound, Refused, NotHex}
 
-unfoldable pub content : List ℕ → List ℕ
-content [] = []
-content (c ∷ line) = cond (c == 0x23 || c == 0x0A) [] (c ∷ content line)
+abbrev pub content : List ℕ → List ℕ
+content line = take_while (λ c. not (c == 0x23 || c == 0x0A)) line
 
 abbrev pub verdict : ℕ → Result Command Refusal → Judged
 verdict size (Ok command) = Sound command size

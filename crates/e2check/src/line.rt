@@ -1,5 +1,6 @@
 //! One line of input: its message, judged.
-ghost use Rattle.std.specs.Prelude.{◌≡◌, ◌||◌, IfOk, ◌==◌};
+ghost use Rattle.std.specs.Prelude.{◌≡◌, ◌||◌, IfOk, IfErr, ◌==◌};
+ghost use Rattle.hexadecimal.specs.declared.DecodeError.TheVariants.{NoMemory};
 ghost use Rattle.request.specs.Askings.{reading_of};
 ghost use Rattle.e2check.specs.Lines.{content, judged, has_message, read_further};
 
@@ -7,9 +8,10 @@ use e2::{Command, check};
 use hexadecimal::{DecodeError, decode};
 use refusal::Refusal;
 use request::asking::{Rejection, Request};
-use std::alloc::AllocError;
+use std::fmt;
 
 /// What is said of a line.
+// Not options and results of one another: these are four cases of one kind, and three deep they would lose their names.
 #[derive(Clone, Copy, PartialEq, Eq, Debug)]
 pub enum Judged {
     /// It holds no message.
@@ -27,12 +29,7 @@ impl Judged {
     pub fn has_message(self) -> bool
         ensures { result ≡ has_message self }
     {
-        match self {
-            Judged::Sound(_, _) => true,
-            Judged::Refused(_) => true,
-            Judged::Nothing => false,
-            Judged::NotHex(_) => false,
-        }
+        matches!(self, Judged::Sound(_, _) | Judged::Refused(_))
     }
 
     /// What is said of the message once it is read to its end.
@@ -42,6 +39,20 @@ impl Judged {
         match reading {
             Ok(_) => self,
             Err(rejection) => Judged::Refused(rejection.refusal),
+        }
+    }
+}
+
+impl fmt::Display for Judged {
+    fn fmt<W: fmt::Write>(&self, f: &mut fmt::Formatter<W>) -> fmt::Result {
+        match *self {
+            Judged::Nothing => Ok(()),
+            Judged::Sound(command, size) => write!(f, "sound {command}, {size} bytes"),
+            Judged::Refused(refusal) => {
+                let number = refusal.number();
+                write!(f, "refused {number}, {refusal}")
+            }
+            Judged::NotHex(column) => write!(f, "not hexadecimal at column {column}"),
         }
     }
 }
@@ -57,23 +68,19 @@ fn is_end(c: u8) -> bool
 fn content(line: &[u8]) -> &[u8]
     ensures { result.now ≡ content line.now }
 {
-    for (i, c) in line.iter().enumerate() {
-        if is_end(*c) {
-            return &line[0..i];
-        }
-    }
-    line
+    let end = line.iter().position(|c| is_end(*c)).unwrap_or(line.len());
+    &line[..end]
 }
 
-/// Judges a line. `message` is room for its bytes, lent so that no line asks for memory of its own.
-pub fn judge(line: &[u8], message: &mut Vec<u8>) -> Result<Judged, AllocError>
-    ensures { IfOk result (λ j. j ≡ judged line.now) }
+/// Judges a line. `message` is room for its bytes, lent so that no line asks for memory of its own. The only error is want of memory.
+pub fn judge(line: &[u8], message: &mut Vec<u8>) -> Result<Judged, DecodeError>
+    ensures is { IfOk result (λ j. j ≡ judged line.now) }
+    ensures memory { IfErr result (λ e. e ≡ NoMemory) }
 {
     message.clear();
     match decode(content(line), message) {
-        Err(DecodeError::NoMemory) => return Err(AllocError),
         Err(DecodeError::NotHex(column)) => return Ok(Judged::NotHex(column)),
-        Ok(()) => {}
+        decoded => decoded?,
     }
     if message.is_empty() {
         return Ok(Judged::Nothing);

@@ -6,11 +6,9 @@ mod reading;
 mod tally;
 
 use crate::line::{Judged, judge};
-use crate::reading::print_reading;
+use crate::reading::Told;
 use crate::tally::Tally;
 use anyhow::anyhow;
-use e2::Command;
-use refusal::Refusal;
 use request::reading::read_request;
 use std::io::{BufRead, BufReader, BufWriter, Write};
 use std::{env, io};
@@ -35,45 +33,7 @@ and at the end how many there were of each. With the name of an application func
 since 1900, it reads each request of that function to its end, and adds what is asked or which AVP is at fault.
 It ends with status 1 where a line was not hexadecimal.";
 
-fn name(command: Command) -> &'static str {
-    match command {
-        Command::UserData => "UDR",
-        Command::SubscribeNotifications => "SNR",
-    }
-}
-
-/// Prints what is to be said of the line with this number, up to the end of the line.
-fn print_line<W: Write>(out: &mut W, number: u64, judged: Judged) -> io::Result<()> {
-    match judged {
-        Judged::Nothing => Ok(()),
-        Judged::Sound(command, size) => {
-            let command = name(command);
-            write!(out, "{number}: sound {command}, {size} bytes")
-        }
-        Judged::Refused(refusal) => {
-            let code = refusal.number();
-            write!(out, "{number}: refused {code}, {refusal}")
-        }
-        Judged::NotHex(column) => writeln!(out, "{number}: not hexadecimal at column {column}"),
-    }
-}
-
-/// Prints how many lines there were of each kind.
-fn print_tally<W: Write>(out: &mut W, tally: &Tally) -> io::Result<()> {
-    let sound = tally.sound;
-    let unreadable = tally.unreadable;
-    writeln!(out, "sound: {sound}")?;
-    for refusal in Refusal::ALL {
-        let count = tally.refused(refusal);
-        if count > 0 {
-            let code = refusal.number();
-            writeln!(out, "refused {code}, {refusal}: {count}")?;
-        }
-    }
-    writeln!(out, "not hexadecimal: {unreadable}")
-}
-
-/// Judges the message of one line and prints what is said of it.
+/// Prints what is said of the message of one line, and of its request where it is to be read to its end.
 fn judge_line<W: Write>(
     out: &mut W,
     number: u64,
@@ -81,29 +41,34 @@ fn judge_line<W: Write>(
     message: &[u8],
     asker: &Option<Asker>,
 ) -> io::Result<Judged> {
-    if !judged.has_message() {
-        print_line(out, number, judged)?;
+    if judged == Judged::Nothing {
         return Ok(judged);
     }
-    let Some(asker) = asker else {
-        print_line(out, number, judged)?;
-        writeln!(out)?;
-        return Ok(judged);
-    };
-    let reading = read_request(message, asker.name.as_bytes(), asker.time);
-    let judged = judged.read_further(&reading);
-    print_line(out, number, judged)?;
-    print_reading(out, &reading)?;
-    writeln!(out)?;
-    Ok(judged)
+    match asker {
+        Some(asker) if judged.has_message() => {
+            let reading = read_request(message, asker.name.as_bytes(), asker.time);
+            let judged = judged.read_further(&reading);
+            writeln!(out, "{number}: {judged}{}", Told(&reading))?;
+            Ok(judged)
+        }
+        _ => {
+            writeln!(out, "{number}: {judged}")?;
+            Ok(judged)
+        }
+    }
 }
 
 /// Judges every line of the input, and gives the counts.
-fn judge_all<W: Write>(rt: &HostRuntime, out: &mut W, asker: &Option<Asker>) -> io::Result<Tally> {
+fn judge_all<W: Write>(
+    rt: &HostRuntime,
+    out: &mut W,
+    asker: &Option<Asker>,
+) -> anyhow::Result<Tally> {
     let mut input = BufReader::new(rt.alloc(), rt.stdin())?;
     let mut text = Vec::new(rt.alloc());
     let mut message = Vec::new(rt.alloc());
     let mut tally = Tally::new();
+    // Not `lines()`, which asks for memory for each line; the range bounds a loop that ends with the input.
     for number in 1..u64::MAX {
         text.clear();
         if input.read_until(b'\n', &mut text)? == 0 {
@@ -136,10 +101,7 @@ fn read_arguments(rt: &HostRuntime) -> anyhow::Result<Option<Asker>> {
 fn wants_help(rt: &HostRuntime) -> io::Result<bool> {
     let mut args = env::args(rt)?;
     let _program = args.next();
-    match args.next() {
-        Some(word) => Ok(word.as_str() == "--help"),
-        None => Ok(false),
-    }
+    Ok(args.next().is_some_and(|word| word.as_str() == "--help"))
 }
 
 fn run(rt: &HostRuntime) -> anyhow::Result<()> {
@@ -151,7 +113,7 @@ fn run(rt: &HostRuntime) -> anyhow::Result<()> {
     }
     let asker = read_arguments(rt)?;
     let tally = judge_all(rt, &mut out, &asker)?;
-    print_tally(&mut out, &tally)?;
+    write!(out, "{tally}")?;
     out.flush()?;
     if tally.unreadable > 0 {
         return Err(anyhow!("some lines are not hexadecimal"));

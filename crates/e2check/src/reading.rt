@@ -2,105 +2,130 @@
 use diameter::avp::AvpView;
 use dictionary::address::AddressView;
 use request::asking::{Asked, FaultyAvp, Rejection, Request, Target};
-use std::io;
-use std::io::Write;
+use std::fmt;
 
-/// Text as it is where it can be printed, else as `0x` and its digits.
-fn print_text<W: Write>(out: &mut W, text: &[u8]) -> io::Result<()> {
-    let mut plain = true;
-    for c in text {
-        plain &= matches!(*c, b'!'..=b'~');
+/// A text as it is where it can be printed, else as `0x` and its digits.
+#[derive(Clone, Copy)]
+struct Printable<'a>(&'a [u8]);
+
+impl fmt::Display for Printable<'_> {
+    fn fmt<W: fmt::Write>(&self, f: &mut fmt::Formatter<W>) -> fmt::Result {
+        if self.0.iter().all(|c| c.is_ascii_graphic()) {
+            for c in self.0 {
+                f.write_char(char::from(*c))?;
+            }
+            return Ok(());
+        }
+        f.write_str("0x")?;
+        for c in self.0 {
+            write!(f, "{c:02x}")?;
+        }
+        Ok(())
     }
-    if plain {
-        return out.write_all(text);
-    }
-    write!(out, "0x")?;
-    for c in text {
-        let byte = *c;
-        write!(out, "{byte:02x}")?;
-    }
-    Ok(())
 }
 
 /// The members of a set, with commas between.
-fn print_set<W: Write>(out: &mut W, bits: u16) -> io::Result<()> {
-    let mut first = true;
-    for k in 0..16u8 {
-        if (bits >> k) % 2 == 1 {
-            let mark = if first { " " } else { "," };
-            write!(out, "{mark}{k}")?;
-            first = false;
+#[derive(Clone, Copy)]
+struct Members(u16);
+
+impl fmt::Display for Members {
+    fn fmt<W: fmt::Write>(&self, f: &mut fmt::Formatter<W>) -> fmt::Result {
+        let mut mark = ' ';
+        for k in (0..16u8).filter(|k| (self.0 >> *k) % 2 == 1) {
+            write!(f, "{mark}{k}")?;
+            mark = ',';
         }
+        Ok(())
     }
-    Ok(())
 }
 
-fn print_asked<W: Write>(out: &mut W, asked: Asked) -> io::Result<()> {
-    match asked {
-        Asked::UserData { requested: None } => write!(out, ", asks for every field"),
-        Asked::UserData {
-            requested: Some(fields),
-        } => {
-            write!(out, ", asks for fields")?;
-            print_set(out, fields)
-        }
-        Asked::Subscribe { events, end } => {
-            write!(out, ", subscribes to events")?;
-            print_set(out, events)?;
-            match end {
-                Some(end) => write!(out, " until {end}"),
-                None => Ok(()),
+/// What is asked, as the rest of a sentence.
+#[derive(Clone, Copy)]
+struct Demand(Asked);
+
+impl fmt::Display for Demand {
+    fn fmt<W: fmt::Write>(&self, f: &mut fmt::Formatter<W>) -> fmt::Result {
+        match self.0 {
+            Asked::UserData { requested: None } => f.write_str(", asks for every field"),
+            Asked::UserData {
+                requested: Some(fields),
+            } => write!(f, ", asks for fields{}", Members(fields)),
+            Asked::Subscribe { events, end: None } => {
+                write!(f, ", subscribes to events{}", Members(events))
+            }
+            Asked::Subscribe {
+                events,
+                end: Some(end),
+            } => write!(f, ", subscribes to events{} until {end}", Members(events)),
+            Asked::Unsubscribe { events } => {
+                write!(f, ", unsubscribes from events{}", Members(events))
             }
         }
-        Asked::Unsubscribe { events } => {
-            write!(out, ", unsubscribes from events")?;
-            print_set(out, events)
+    }
+}
+
+/// Whom a request is about.
+#[derive(Clone, Copy)]
+struct Subject<'a>(Target<'a>);
+
+impl fmt::Display for Subject<'_> {
+    fn fmt<W: fmt::Write>(&self, f: &mut fmt::Formatter<W>) -> fmt::Result {
+        match self.0 {
+            Target::Address(AddressView { ip, realm }) => {
+                let mut mark = " of ";
+                for byte in ip {
+                    write!(f, "{mark}{byte}")?;
+                    mark = ".";
+                }
+                write!(f, " in {}", Printable(realm))
+            }
+            Target::User(user) => write!(f, " of user {}", Printable(user)),
         }
     }
 }
 
-fn print_address<W: Write>(out: &mut W, address: AddressView<'_>) -> io::Result<()> {
-    let mut first = true;
-    for c in address.ip {
-        let byte = *c;
-        let mark = if first { " of " } else { "." };
-        write!(out, "{mark}{byte}")?;
-        first = false;
-    }
-    write!(out, " in ")?;
-    print_text(out, address.realm)
+/// The name of an AVP.
+#[derive(Clone, Copy)]
+struct Name {
+    code: u32,
+    vendor: u32,
 }
 
-fn print_request<W: Write>(out: &mut W, request: &Request<'_>) -> io::Result<()> {
-    print_asked(out, request.asked)?;
-    match request.target {
-        Target::Address(address) => print_address(out, address),
-        Target::User(user) => {
-            write!(out, " of user ")?;
-            print_text(out, user)
+impl fmt::Display for Name {
+    fn fmt<W: fmt::Write>(&self, f: &mut fmt::Formatter<W>) -> fmt::Result {
+        let Name { code, vendor } = *self;
+        if vendor == 0 {
+            write!(f, ": AVP {code}")
+        } else {
+            write!(f, ": AVP {code} of vendor {vendor}")
         }
-    }
-}
-
-fn print_name<W: Write>(out: &mut W, code: u32, vendor: u32) -> io::Result<()> {
-    if vendor == 0 {
-        write!(out, ": AVP {code}")
-    } else {
-        write!(out, ": AVP {code} of vendor {vendor}")
     }
 }
 
 /// What is asked, or which AVP is at fault.
-pub fn print_reading<'a, W: Write>(
-    out: &mut W,
-    reading: &Result<Request<'a>, Rejection<'a>>,
-) -> io::Result<()> {
-    match reading {
-        Ok(request) => print_request(out, request),
-        Err(rejection) => match rejection.faulty {
-            None => Ok(()),
-            Some(FaultyAvp::Present(AvpView { code, vendor, .. })) => print_name(out, code, vendor),
-            Some(FaultyAvp::Missing(known)) => print_name(out, known.code(), known.vendor()),
-        },
+#[derive(Clone, Copy)]
+pub struct Told<'r, 'a>(pub &'r Result<Request<'a>, Rejection<'a>>);
+
+impl fmt::Display for Told<'_, '_> {
+    fn fmt<W: fmt::Write>(&self, f: &mut fmt::Formatter<W>) -> fmt::Result {
+        match self.0 {
+            Ok(request) => {
+                let subject = Subject(request.target);
+                write!(f, "{}{subject}", Demand(request.asked))
+            }
+            Err(rejection) => match rejection.faulty {
+                None => Ok(()),
+                Some(FaultyAvp::Present(AvpView { code, vendor, .. })) => {
+                    write!(f, "{}", Name { code, vendor })
+                }
+                Some(FaultyAvp::Missing(known)) => {
+                    let name = Name {
+                        code: known.code(),
+                        vendor: known.vendor(),
+                    };
+                    write!(f, "{name}")
+                }
+            },
+        }
     }
 }

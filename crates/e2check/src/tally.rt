@@ -5,12 +5,14 @@ ghost use Rattle.e2check.specs.Tallies.{counted, none_counted};
 
 use crate::line::Judged;
 use refusal::Refusal;
+use std::fmt;
 
 /// Counts of lines.
 #[derive(Drop)]
 pub struct Tally {
     pub sound: u64,
     /// By the number of the refusal.
+    // Not a map: counting never fails, and a map may want memory.
     refused: [u64; 64],
     pub unreadable: u64,
 }
@@ -47,5 +49,22 @@ impl Tally {
             }
             Judged::NotHex(_) => self.unreadable = self.unreadable.saturating_add(1),
         }
+    }
+}
+
+/// The counts, a line for each kind of which there was one.
+impl fmt::Display for Tally {
+    fn fmt<W: fmt::Write>(&self, f: &mut fmt::Formatter<W>) -> fmt::Result {
+        let sound = self.sound;
+        writeln!(f, "sound: {sound}")?;
+        for refusal in Refusal::ALL {
+            let count = self.refused(refusal);
+            if count > 0 {
+                let number = refusal.number();
+                writeln!(f, "refused {number}, {refusal}: {count}")?;
+            }
+        }
+        let unreadable = self.unreadable;
+        writeln!(f, "not hexadecimal: {unreadable}")
     }
 }
