@@ -39,7 +39,7 @@ fn judge_line<W: Write>(
     number: u64,
     judged: Judged,
     message: &[u8],
-    asker: &Option<Asker>,
+    asker: Option<&Asker>,
 ) -> io::Result<Judged> {
     if judged == Judged::Nothing {
         return Ok(judged);
@@ -62,7 +62,7 @@ fn judge_line<W: Write>(
 fn judge_all<W: Write>(
     rt: &HostRuntime,
     out: &mut W,
-    asker: &Option<Asker>,
+    asker: Option<&Asker>,
 ) -> anyhow::Result<Tally> {
     let mut input = BufReader::new(rt.alloc(), rt.stdin())?;
     let mut text = Vec::new(rt.alloc());
@@ -112,7 +112,7 @@ fn run(rt: &HostRuntime) -> anyhow::Result<()> {
         return Ok(());
     }
     let asker = read_arguments(rt)?;
-    let tally = judge_all(rt, &mut out, &asker)?;
+    let tally = judge_all(rt, &mut out, asker.as_ref())?;
     write!(out, "{tally}")?;
     out.flush()?;
     if tally.unreadable > 0 {
