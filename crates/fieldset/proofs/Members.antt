@@ -1,98 +1,65 @@
 -- The members of a set in ascending order, taken off from the lowest.
-use Rattle.std.proofs.Common.{◌≡◌, ℕ, zero, suc, ◌+◌, ◌-◌, ◌*◌, ◌/◌, ◌%◌, ◌<◌, ◌≤◌, Bool, true, false, cond, eqb, List, [], ◌∷◌, ◌++◌, map, length, sym, refl, ap, ◌∙◌, inl, inr, append_assoc, append-nil, arith, length-append}
-use mathlib.Core.List.{map-append}
-use lib.Bits.{bit_and, and_step, and_self}
-use lib.Count.{count_trailing_zeros, under}
+use Rattle.std.proofs.Common.{◌≡◌, ℕ, zero, suc, ◌+◌, ◌^◌, ◌<◌, ◌≤◌, Bool, true, false, not, ◌&&◌, cond, eqb, [], ◌∷◌, ◌++◌, length, sym, refl, ap, ◌∙◌, inl, inr, arith, length-append}
+use lib.Count.{count_trailing_zeros, trailing_of_zero}
+use Rattle.std.specs.Int.{bit_at, w16}
 use Rattle.std.proofs.lemmas.Bool.{cases_eq}
 use Rattle.std.proofs.lemmas.Bool.Decides.{nat_tests}
+use Rattle.std.proofs.lemmas.Nat.Bits.{bit_at-zero, bit_at-pow_same, bit_at-pow_other, bit_at-trailing_zeros}
 use Rattle.fieldset.specs.Sets.{has, how_many, members}
-use Rattle.fieldset.proofs.Laws.{bit_step, impossible}
 
--- zero as a list, where it is a member
-abbrev lowest_of : ℕ → List ℕ
-lowest_of n = cond (has n 0) (0 ∷ []) []
-
-map_cond : (b : Bool) (d : ℕ) → map suc (cond b (d ∷ []) []) ≡ cond b (suc d ∷ []) []
-map_cond true d = refl
-map_cond false d = refl
-
--- zero apart, the others from the halved number
-members_step : (d n : ℕ) → members (suc d) n ≡ lowest_of n ++ map suc (members d (n / 2))
+pub none_below : (d n : ℕ) → ((k : ℕ) → k < d → has n k ≡ false) → members d n ≡ []
 unfolding members
-members_step zero n = sym (append-nil (lowest_of n))
-members_step (suc d) n =
-    let h : has n (suc d) ≡ has (n / 2) d = ap (λ (b : ℕ). eqb b 1) (bit_step n d) in
-    (λ i. members_step d n i ++ cond (h i) (suc d ∷ []) [])
-    ∙ append_assoc (lowest_of n) (map suc (members d (n / 2))) (cond (has (n / 2) d) (suc d ∷ []) [])
-    ∙ ap (λ (xs : List ℕ). lowest_of n ++ (map suc (members d (n / 2)) ++ xs)) (sym (map_cond (has (n / 2) d) d))
-    ∙ ap (λ (xs : List ℕ). lowest_of n ++ xs) (sym (map-append suc (members d (n / 2)) (cond (has (n / 2) d) (d ∷ []) [])))
+none_below zero n none = refl
+none_below (suc d) n none =
+    λ i. none_below d n (λ k h. none k (omega arith)) i ++ cond (none d (omega arith) i) (d ∷ []) []
 
-odd_step : (d n : ℕ) → n % 2 ≡ 1 → members (suc d) n ≡ 0 ∷ map suc (members d (n / 2))
-odd_step d n o =
-    let h : has n 0 ≡ true = grind (arith, nat_tests) in
-    members_step d n ∙ ap (λ (b : Bool). cond b (0 ∷ []) [] ++ map suc (members d (n / 2))) h
-
-even_step : (d n : ℕ) → n % 2 ≡ 0 → members (suc d) n ≡ map suc (members d (n / 2))
-even_step d n e =
-    let h : has n 0 ≡ false = grind (arith, nat_tests) in
-    members_step d n ∙ ap (λ (b : Bool). cond b (0 ∷ []) [] ++ map suc (members d (n / 2))) h
-
-trailing_odd : (w n : ℕ) → n % 2 ≡ 1 → count_trailing_zeros (suc w) n ≡ 0
-unfolding count_trailing_zeros
-trailing_odd w n o = ap (λ (b : ℕ). under b (count_trailing_zeros w (n / 2))) o
-
-trailing_even : (w n : ℕ) → n % 2 ≡ 0 → count_trailing_zeros (suc w) n ≡ suc (count_trailing_zeros w (n / 2))
-unfolding count_trailing_zeros
-trailing_even w n e = ap (λ (b : ℕ). under b (count_trailing_zeros w (n / 2))) e
-
--- n without its lowest member
-abbrev cleared : ℕ → ℕ
-cleared n = bit_and n (n - 1)
-
-cleared_odd : (n : ℕ) → n % 2 ≡ 1 → cleared n ≡ n - 1
-cleared_odd n o =
-    let e : (n - 1) / 2 ≡ n / 2 = omega arith in
-    omega (arith, and_step n (n - 1), ap (bit_and (n / 2)) e, and_self (n / 2))
-
-cleared_even : (n : ℕ) → n % 2 ≡ 0 → cleared n ≡ cleared (n / 2) * 2
-cleared_even n o =
-    let e : (n - 1) / 2 ≡ n / 2 - 1 = omega arith in
-    omega (arith, and_step n (n - 1), ap (bit_and (n / 2)) e)
-
-pub lowest_first : (d w n : ℕ) → d ≤ w → count_trailing_zeros w n < d → members d n ≡ count_trailing_zeros w n ∷ members d (bit_and n (n - 1))
-lowest_first zero w n l h = impossible (omega arith)
-lowest_first (suc d) zero n l h = impossible (omega arith)
-lowest_first (suc d) (suc w) n l h =
-    elim (cases_eq (n % 2) 1) [
-      | inl o ↦
-          let z : count_trailing_zeros (suc w) n ≡ 0 = trailing_odd w n o in
-          let c = cleared_odd n o in
-          let half : cleared n / 2 ≡ n / 2 = omega arith in
-          odd_step d n o
-          ∙ (λ i. sym z i ∷ map suc (members d (sym half i)))
-          ∙ ap (λ (xs : List ℕ). count_trailing_zeros (suc w) n ∷ xs) (sym (even_step d (cleared n) (omega arith)))
-      | inr ne ↦
-          let e : n % 2 ≡ 0 = omega arith in
-          let z : count_trailing_zeros (suc w) n ≡ suc (count_trailing_zeros w (n / 2)) = trailing_even w n e in
-          let c = cleared_even n e in
-          let half : cleared n / 2 ≡ cleared (n / 2) = omega arith in
-          even_step d n e
-          ∙ ap (map suc) (lowest_first d w (n / 2) (omega arith) (omega arith))
-          ∙ (λ i. sym z i ∷ map suc (members d (sym half i)))
-          ∙ ap (λ (xs : List ℕ). count_trailing_zeros (suc w) n ∷ xs) (sym (even_step d (cleared n) (omega arith)))
+has_pow : (k j : ℕ) → has (2 ^ k) j ≡ eqb j k
+has_pow k j =
+    elim (cases_eq j k) [
+      | inl e ↦ let b : bit_at (2 ^ k) j ≡ 1 = ap (bit_at (2 ^ k)) e ∙ bit_at-pow_same k in grind (arith, nat_tests)
+      | inr ne ↦ let b = bit_at-pow_other k j ne in grind (arith, nat_tests)
     ]
 
-pub none_below : (d w n : ℕ) → d ≤ w → d ≤ count_trailing_zeros w n → members d n ≡ []
+-- k is the lowest member of n, and m has the others
+pub lowest_first : (d n m k : ℕ) → k < d → has n k ≡ true → ((j : ℕ) → j < k → has n j ≡ false)
+    → ((j : ℕ) → has m j ≡ (has n j && not (eqb j k))) → members d n ≡ k ∷ members d m
 unfolding members
-none_below zero w n l h = refl
-none_below (suc d) zero n l h = impossible (omega arith)
-none_below (suc d) (suc w) n l h =
-    elim (cases_eq (n % 2) 1) [
-      | inl o ↦ impossible (omega (arith, trailing_odd w n o))
+lowest_first zero n m k l here none others = absurd (omega arith)
+lowest_first (suc d) n m k l here none others =
+    elim (cases_eq d k) [
+      | inl e ↦
+          let last : has n d ≡ true = ap (has n) e ∙ here in
+          let gone : has m d ≡ false = let o = others d in grind (arith, nat_tests) in
+          let before : members d n ≡ [] = none_below d n (λ j h. none j (omega arith)) in
+          let after : members d m ≡ [] = none_below d m (λ j h. let o = others j in let z = none j (omega arith) in grind (arith, nat_tests)) in
+          (λ i. before i ++ cond (last i) (e i ∷ []) []) ∙ sym (λ i. k ∷ (after i ++ cond (gone i) (d ∷ []) []))
       | inr ne ↦
-          let e : n % 2 ≡ 0 = omega arith in
-          even_step d n e ∙ ap (map suc) (none_below d w (n / 2) (omega arith) (omega (arith, trailing_even w n e)))
+          let same : has n d ≡ has m d = let o = others d in grind (arith, nat_tests) in
+          λ i. lowest_first d n m k (omega arith) here none others i ++ cond (same i) (d ∷ []) []
     ]
+
+-- a set of sixteen bits has no member below d where its lowest is from d on
+pub none_in : (d n : ℕ) → n < 65536 → d ≤ count_trailing_zeros 16 n → members d n ≡ []
+none_in d n h l =
+    none_below d n (λ k j. elim (cases_eq n 0) [
+      | inl z ↦ let e : bit_at n k ≡ 0 = ap (λ (m : ℕ). bit_at m k) z ∙ bit_at-zero k in grind (arith, nat_tests)
+      | inr ne ↦ let e : bit_at n k ≡ 0 = (bit_at-trailing_zeros w16 n (omega arith) h).2 k (omega arith) in grind (arith, nat_tests)
+    ])
+
+-- m is n without its lowest member k
+pub lowest_in : (d n m k : ℕ) → n < 65536 → k ≡ count_trailing_zeros 16 n → k < d → d ≤ 16
+    → ((j : ℕ) → has m j ≡ (has n j && not (has (2 ^ k) j))) → members d n ≡ k ∷ members d m
+lowest_in d n m k h e l w others =
+    let some : 0 < n =
+    elim (cases_eq n 0) [
+      | inl z ↦ absurd (omega (arith, ap (count_trailing_zeros 16) z, trailing_of_zero 16))
+      | inr ne ↦ omega arith
+    ] in
+    let low = bit_at-trailing_zeros w16 n some h in
+    let here : has n k ≡ true = let b : bit_at n k ≡ 1 = ap (bit_at n) e ∙ low.1 in grind (arith, nat_tests) in
+    lowest_first d n m k l here
+    (λ j i. let b : bit_at n j ≡ 0 = low.2 j (omega arith) in grind (arith, nat_tests))
+    (λ j. others j ∙ ap (λ (b : Bool). has n j && not b) (has_pow k j))
 
 cond_length : (b : Bool) (d : ℕ) → length (cond b (d ∷ []) []) ≡ cond b 1 0
 cond_length true d = refl

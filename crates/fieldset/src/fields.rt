@@ -9,31 +9,29 @@ use crate::{Field, FieldSet};
 /// The fields of a set that are still to come.
 #[derive(Clone, Copy)]
 pub struct Fields {
-    rest: u16,
+    rest: FieldSet,
 }
 
 impl FieldSet {
     /// The fields of the set, in ascending order.
     pub fn fields(self) -> Fields
-        ensures { result.rest ≡ self.bits }
+        ensures { result.rest.bits ≡ self.bits }
     {
-        Fields { rest: self.bits() }
+        Fields { rest: self }
     }
 }
 
 impl Iterator for Fields {
     type Item = Field;
 
-    ghost next_gives = { λ s r t. elim r [ Some f ↦ members 10 s.rest ≡ number f ∷ members 10 t.rest | None ↦ members 10 s.rest ≡ [] ] };
+    ghost next_gives = { λ s r t. elim r [ Some f ↦ members 10 s.rest.bits ≡ number f ∷ members 10 t.rest.bits | None ↦ members 10 s.rest.bits ≡ [] ] };
 
-    ghost remaining = { λ s. at_most (length (members 10 s.rest)) };
+    ghost remaining = { λ s. at_most (length (members 10 s.rest.bits)) };
 
     fn next(&mut self) -> Option<Field> {
-        let lowest = self.rest.trailing_zeros();
-        let Some(field) = Field::from_number(lowest as u8) else {
-            return None;
-        };
-        self.rest &= self.rest - 1;
+        let lowest = self.rest.bits().trailing_zeros();
+        let field = Field::try_from(lowest as u8).ok()?;
+        self.rest = self.rest.difference(field.alone());
         Some(field)
     }
 }

@@ -5,7 +5,7 @@ mod field;
 mod fields;
 mod set;
 
-pub use field::{Field, FieldSet};
+pub use field::{Field, FieldSet, NoSuchField};
 pub use fields::Fields;
 pub use set::BitSet;
 

@@ -18,6 +18,7 @@ impl<const WIDTH: u32> BitSet<WIDTH> {
     }
 
     /// The set with one member, or none where a set cannot hold it.
+    #[tactic(auto, using(std::proofs::lemmas::Nat::one_shl, std::proofs::lemmas::Nat::pow_below))]
     pub fn only(member: u8) -> Option<Self>
         ensures { elim result [ Some s ↦ s.bits ≡ 2 ^ member | None ↦ min WIDTH 16 ≤ member ] }
     {
@@ -56,6 +57,7 @@ impl<const WIDTH: u32> BitSet<WIDTH> {
     }
 
     /// Whether a number is a member.
+    #[tactic(auto, using(crate::proofs::Laws::has_high))]
     pub fn contains(self, member: u8) -> bool
         ensures { result ≡ has self.entry.bits member }
     {
@@ -71,6 +73,7 @@ impl<const WIDTH: u32> BitSet<WIDTH> {
     }
 
     /// How many members there are.
+    #[tactic(auto, using(crate::proofs::Laws::ones_count, crate::proofs::Members::members_count))]
     pub fn len(self) -> u32
         ensures is { result ≡ count_ones self.entry.bits }
         ensures each { result ≡ how_many WIDTH self.entry.bits }
@@ -80,6 +83,7 @@ impl<const WIDTH: u32> BitSet<WIDTH> {
     }
 
     /// The members of either.
+    #[tactic(auto, using(crate::proofs::Laws::has_or, std::proofs::lemmas::Nat::or_lt))]
     pub fn union(self, other: Self) -> Self
         ensures is { result.bits ≡ bit_or self.entry.bits other.entry.bits }
         ensures each { (k : ℕ) → has result.bits k ≡ (has self.entry.bits k || has other.entry.bits k) }
@@ -90,6 +94,7 @@ impl<const WIDTH: u32> BitSet<WIDTH> {
     }
 
     /// The members of both.
+    #[tactic(auto, using(crate::proofs::Laws::has_and))]
     pub fn intersection(self, other: Self) -> Self
         ensures is { result.bits ≡ bit_and self.entry.bits other.entry.bits }
         ensures each { (k : ℕ) → has result.bits k ≡ (has self.entry.bits k && has other.entry.bits k) }
@@ -100,6 +105,7 @@ impl<const WIDTH: u32> BitSet<WIDTH> {
     }
 
     /// The members of this set that are not members of the other.
+    #[tactic(auto, using(crate::proofs::Laws::has_minus, crate::proofs::Laws::minus_is))]
     pub fn difference(self, other: Self) -> Self
         ensures is { result.bits ≡ minus self.entry.bits other.entry.bits }
         ensures each { (k : ℕ) → has result.bits k ≡ (has self.entry.bits k && not (has other.entry.bits k)) }
@@ -110,6 +116,7 @@ impl<const WIDTH: u32> BitSet<WIDTH> {
     }
 
     /// Whether each member is a member of the other.
+    #[tactic(auto, using(crate::proofs::Laws::inside_each, crate::proofs::Laws::inside_all))]
     pub fn is_subset(self, other: Self) -> bool
         ensures is { result ≡ inside self.entry.bits other.entry.bits }
         ensures each { result ≡ true → (k : ℕ) → has self.entry.bits k ≡ true → has other.entry.bits k ≡ true }

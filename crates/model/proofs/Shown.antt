@@ -6,7 +6,7 @@ use Rattle.refusal.specs.declared.Refusal.TheVariants.{AmbiguousUser, NoSession,
 use Rattle.refusal.specs.declared.ResultCode.TheVariants.{Base}
 use Rattle.diameter.specs.Headers.{header_of}
 use Rattle.fieldset.specs.Sets.{has, members}
-use Rattle.fieldset.proofs.Laws.{bit_step}
+use Rattle.std.proofs.lemmas.Nat.Bits.{bit_at-suc}
 use Rattle.request.specs.Askings.{Subject, at_address, of_user, Asking, nothing, Rejected}
 use Rattle.request.specs.declared.asking.Asked.{Asked}
 use Rattle.request.specs.declared.asking.Asked.TheVariants.{UserData, Subscribe, Unsubscribe}
@@ -35,11 +35,11 @@ half true n = omega arith
 half false n = omega arith
 
 has_high : (b : Bool) (n k : ℕ) → has (cond b 1 0 + 2 * n) (suc k) ≡ has n k
-has_high b n k = ap (λ m. eqb m 1) (bit_step (cond b 1 0 + 2 * n) k ∙ ap (λ m. m / 2 ^ k % 2) (half b n))
+has_high b n k = ap (λ m. eqb m 1) (bit_at-suc (cond b 1 0 + 2 * n) k ∙ ap (λ m. m / 2 ^ k % 2) (half b n))
 
 none_in : (k : ℕ) → has 0 k ≡ false
 none_in zero = refl
-none_in (suc k) = ap (λ m. eqb m 1) (bit_step 0 k) ∙ none_in k
+none_in (suc k) = ap (λ m. eqb m 1) (bit_at-suc 0 k) ∙ none_in k
 
 -- what is in the set passed the test
 in_those : (d : ℕ) (p : ℕ → Bool) (k : ℕ) → has (those d p) k ≡ true → p k ≡ true

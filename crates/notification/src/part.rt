@@ -105,7 +105,7 @@ fn told_field(event: u8, value: &[u8]) -> Option<Field>
     if event == 0 || event > 8 || value.is_empty() {
         return None;
     }
-    Field::from_number(event)
+    Field::try_from(event).ok()
 }
 
 /// The AVP of the field that is told.

@@ -1,7 +1,9 @@
 -- The refusals as a table: for each its number and the result that its answer carries.
 --     number r     the number by which the interface names r
 --     code r       the result that the answer to r carries, or none where there is no answer
-use Rattle.std.specs.Prelude.{ℕ, Some, None, Option}
+--     AllInOrder   the list of all refusals has each at the place of its number
+use Rattle.std.specs.Prelude.{◌≡◌, ℕ, ◌-◌, Some, None, Option, slice_get}
+use Rattle.refusal.specs.declared.TheConstants.Refusal.{ALL}
 use Rattle.refusal.specs.declared.Refusal.{Refusal}
 use Rattle.refusal.specs.declared.Refusal.TheVariants.{UnknownAf, ShortBuffer, WrongSize, NotRequest, WrongVersion, WrongApplication, WrongCommand, Unsound, UnsupportedAvp, RepeatedAvp, MissingAvp, WrongAvp, WrongAf, AmbiguousUser, NoSession, NothingToShow, NoPlace, WrongArgument, AddressTaken, NoRoom, NoSuchAddress, UnsoundValue, NoticeOut, NothingWaiting, WrongSlip, WrongAfCount, WrongName, WrongRow, WrongOpening}
 use Rattle.refusal.specs.declared.ResultCode.{ResultCode}
@@ -68,3 +70,6 @@ code WrongAfCount = None
 code WrongName = None
 code WrongRow = None
 code WrongOpening = None
+
+abbrev pub AllInOrder : Type 0
+AllInOrder = (r : Refusal) → slice_get ALL (number r - 1) ≡ Some r

@@ -2,71 +2,100 @@
 #![tactic(auto)]
 
 ghost use Rattle.std.specs.Prelude.{◌≡◌};
-ghost use Rattle.refusal.specs.Refusals.{number, code};
+ghost use Rattle.refusal.specs.Refusals.{number, code, AllInOrder};
 
-use std::fmt;
+use thiserror::Error;
 
 /// Why a call is turned down. The numbers are those of the interface; within a call the reasons are tried in their order.
-#[derive(Clone, Copy, PartialEq, Eq, Debug)]
+#[derive(Clone, Copy, PartialEq, Eq, Debug, Error)]
 pub enum Refusal {
     /// No application function has this number.
+    #[error("application function not on the sheet")]
     UnknownAf = 1,
     /// The buffer has less than 2,048 bytes.
+    #[error("buffer too short")]
     ShortBuffer = 2,
     /// The message has a length that no request has, or another than its header says.
+    #[error("message length wrong")]
     WrongSize = 3,
     /// The message is not a request.
+    #[error("not a request")]
     NotRequest = 4,
     /// The protocol's version is not 1.
+    #[error("version not 1")]
     WrongVersion = 5,
     /// The application is not e2.
+    #[error("application not e2")]
     WrongApplication = 6,
     /// The command is not one that we answer.
+    #[error("command neither UDR nor SNR")]
     WrongCommand = 7,
     /// The message's AVPs are not a sound sequence.
+    #[error("AVPs unsound")]
     Unsound = 8,
     /// An AVP that the receiver has to understand is none that we know.
+    #[error("AVP not supported")]
     UnsupportedAvp = 9,
     /// An AVP that may stand once stands again.
+    #[error("AVP repeated")]
     RepeatedAvp = 10,
     /// An AVP that the command needs is not there.
+    #[error("AVP missing")]
     MissingAvp = 11,
     /// An AVP has data that it may not have.
+    #[error("AVP value wrong")]
     WrongAvp = 12,
     /// The request names another application function than the one that asks.
+    #[error("application function not the one that asks")]
     WrongAf = 13,
     /// The user name fits several sessions.
+    #[error("user name fits several sessions")]
     AmbiguousUser = 14,
     /// No session fits.
+    #[error("no session fits")]
     NoSession = 15,
     /// Of the fields asked for none is there to be shown.
+    #[error("nothing to show")]
     NothingToShow = 16,
     /// The application function has no place left for a subscription.
+    #[error("no place for a subscription")]
     NoPlace = 17,
     /// A length, a set or a field is outside its range.
+    #[error("argument out of range")]
     WrongArgument = 18,
     /// The address has a session.
+    #[error("address has a session")]
     AddressTaken = 19,
     /// There is no place left for a session.
+    #[error("no place for a session")]
     NoRoom = 20,
     /// The address has no session.
+    #[error("address has no session")]
     NoSuchAddress = 21,
     /// The value of a field that is a group is not a sound sequence.
+    #[error("value unsound")]
     UnsoundValue = 22,
     /// A notice to the application function is out.
+    #[error("notice out already")]
     NoticeOut = 23,
     /// No notice waits for the application function.
+    #[error("nothing waiting")]
     NothingWaiting = 24,
     /// The slip is not that of the notice that is out.
+    #[error("slip not of the notice out")]
     WrongSlip = 25,
     /// The sheet has no application function, or more than 32.
+    #[error("number of application functions wrong")]
     WrongAfCount = 26,
     /// A name of the sheet has not 1 to 64 bytes, or is equal to an earlier one.
+    #[error("name of an application function wrong")]
     WrongName = 27,
     /// A row of the sheet has bits past the ten fields, or overrides what it does not allow.
+    #[error("rights of an application function wrong")]
     WrongRow = 28,
     /// A book or a repository is opened with something outside its range: the places for sessions, the own host or realm,
     /// a rank, a need or an embargo.
+    #[error("opening wrong")]
     WrongOpening = 29,
 }
 
@@ -154,45 +183,9 @@ impl Refusal {
             | Refusal::WrongOpening => None,
         }
     }
-
-    /// What the refusal says, in words for people.
-    fn words(self) -> &'static str {
-        match self {
-            Refusal::UnknownAf => "application function not on the sheet",
-            Refusal::ShortBuffer => "buffer too short",
-            Refusal::WrongSize => "message length wrong",
-            Refusal::NotRequest => "not a request",
-            Refusal::WrongVersion => "version not 1",
-            Refusal::WrongApplication => "application not e2",
-            Refusal::WrongCommand => "command neither UDR nor SNR",
-            Refusal::Unsound => "AVPs unsound",
-            Refusal::UnsupportedAvp => "AVP not supported",
-            Refusal::RepeatedAvp => "AVP repeated",
-            Refusal::MissingAvp => "AVP missing",
-            Refusal::WrongAvp => "AVP value wrong",
-            Refusal::WrongAf => "application function not the one that asks",
-            Refusal::AmbiguousUser => "user name fits several sessions",
-            Refusal::NoSession => "no session fits",
-            Refusal::NothingToShow => "nothing to show",
-            Refusal::NoPlace => "no place for a subscription",
-            Refusal::WrongArgument => "argument out of range",
-            Refusal::AddressTaken => "address has a session",
-            Refusal::NoRoom => "no place for a session",
-            Refusal::NoSuchAddress => "address has no session",
-            Refusal::UnsoundValue => "value unsound",
-            Refusal::NoticeOut => "notice out already",
-            Refusal::NothingWaiting => "nothing waiting",
-            Refusal::WrongSlip => "slip not of the notice out",
-            Refusal::WrongAfCount => "number of application functions wrong",
-            Refusal::WrongName => "name of an application function wrong",
-            Refusal::WrongRow => "rights of an application function wrong",
-            Refusal::WrongOpening => "opening wrong",
-        }
-    }
 }
 
-impl fmt::Display for Refusal {
-    fn fmt<W: fmt::Write>(&self, f: &mut fmt::Formatter<W>) -> fmt::Result {
-        f.write_str(self.words())
-    }
-}
+/// `ALL` has every refusal, at the place of its number.
+pub fn all_in_order()
+    ensures { AllInOrder }
+{}

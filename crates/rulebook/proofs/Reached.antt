@@ -4,7 +4,7 @@ use mir.Val.{bool_byte}
 use Rattle.std.proofs.lemmas.List.{drop_more}
 use Rattle.std.proofs.lemmas.Bool.Decides.{nat_tests}
 use Rattle.fieldset.specs.Sets.{has}
-use Rattle.fieldset.proofs.Laws.{bit_step}
+use Rattle.std.proofs.lemmas.Nat.Bits.{bit_at-suc}
 use Rattle.rulebook.specs.Books.{reached}
 use Rattle.rulebook.proofs.Below.{impossible}
 
@@ -42,4 +42,4 @@ reached_each rank [] k h = impossible (omega arith)
 reached_each rank (n ∷ ns) zero h = grind (arith, nat_tests)
 reached_each rank (n ∷ ns) (suc k) h =
     let half : reached rank (n ∷ ns) / 2 ≡ reached rank ns = let c : cond (leb n rank) 1 0 ≤ 1 = grind (arith, nat_tests) in omega arith in
-    ap (λ (b : ℕ). eqb b 1) (bit_step (reached rank (n ∷ ns)) k) ∙ ap (λ (m : ℕ). has m k) half ∙ reached_each rank ns k (omega arith)
+    ap (λ (b : ℕ). eqb b 1) (bit_at-suc (reached rank (n ∷ ns)) k) ∙ ap (λ (m : ℕ). has m k) half ∙ reached_each rank ns k (omega arith)

@@ -9,5 +9,5 @@ invariant-loop-field g l =
     let values = g.S.FieldSource.value l.source in
     (goal.iterator-loop-field g).can_next l.field-iterator
     × (goal.iterator-loop-field g).is_finite l.field-iterator
-    × (l.size + parts_size (field_parts values (members 10 l.field-iterator.rest)) ≡ parts_size (field_parts values (members 10 l.initial.field-iterator.rest)))
-    × (l.size + limits_size (members 10 l.field-iterator.rest) ≤ limits_size (members 10 l.initial.field-iterator.rest))
+    × (l.size + parts_size (field_parts values (members 10 l.field-iterator.rest.bits)) ≡ parts_size (field_parts values (members 10 l.initial.field-iterator.rest.bits)))
+    × (l.size + limits_size (members 10 l.field-iterator.rest.bits) ≤ limits_size (members 10 l.initial.field-iterator.rest.bits))

@@ -11,8 +11,8 @@ pub loop-field-preserved : goal.loop-field-preserved
 loop-field-preserved g c =
     let values : ℕ → List ℕ = g.S.FieldSource.value c.args.source.now in
     let k : ℕ = number c.in-Some.field in
-    let before : List ℕ = members 10 c.loop-field.field-iterator.rest in
-    let after : List ℕ = members 10 c.next.new.self.rest in
+    let before : List ℕ = members 10 c.loop-field.field-iterator.rest.bits in
+    let after : List ℕ = members 10 c.next.new.self.rest.bits in
     let steps : before ≡ k ∷ after = c.in-Some.ensures.steps in
     let done = c.loop-field.invariant.2 in
     let v = c.value.ensures.is in
@@ -36,7 +36,7 @@ pub returns : goal.returns
 returns g c =
     let values : ℕ → List ℕ = g.S.FieldSource.value c.args.source.now in
     let done = c.loop-field.invariant.2 in
-    let start : c.into_iter-field-iterator.result.rest ≡ c.args.shown.bits = search rules in
+    let start : c.into_iter-field-iterator.result.rest.bits ≡ c.args.shown.bits = search rules in
     appends_as
     (sym (append-nil done.0)
     ∙ ap (λ (q : List ℕ). done.0 ++ parts_bytes (field_parts values q)) (sym c.in-None.ensures.steps)

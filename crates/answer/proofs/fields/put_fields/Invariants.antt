@@ -12,5 +12,5 @@ invariant-loop-field g l =
     × (goal.iterator-loop-field g).is_finite l.field-iterator
     × ((done : List ℕ)
     × (Appends l.initial.w done l.w
-    × (done ++ parts_bytes (field_parts values (members 10 l.field-iterator.rest)) ≡ parts_bytes (field_parts values (members 10 l.initial.field-iterator.rest)))))
-    × room (parts_size (field_parts values (members 10 l.field-iterator.rest))) l.w
+    × (done ++ parts_bytes (field_parts values (members 10 l.field-iterator.rest.bits)) ≡ parts_bytes (field_parts values (members 10 l.initial.field-iterator.rest.bits)))))
+    × room (parts_size (field_parts values (members 10 l.field-iterator.rest.bits))) l.w
