@@ -15,7 +15,7 @@ use diameter::header::Header;
 use fieldset::FieldSet;
 use message::Origin;
 use refusal::ResultCode;
-use request::asking::Carried;
+use request::asking::FaultyAvp;
 use writer::writer::Writer;
 
 impl<'m, 'o, 's, S: FieldSource> Draft<'m, 'o, 's, S> {
@@ -37,7 +37,7 @@ impl<'m, 'o, 's, S: FieldSource> Draft<'m, 'o, 's, S> {
             origin,
             source,
             shown: FieldSet::empty(),
-            carried: Carried::Nothing,
+            carried: None,
         }
     }
 
@@ -66,7 +66,7 @@ impl<'m, 'o, 's, S: FieldSource> Draft<'m, 'o, 's, S> {
     }
 
     /// Tells which AVP of the request is at fault or missing.
-    pub fn tell(self, told: Carried<'m>) -> Draft<'m, 'o, 's, S>
+    pub fn tell(self, told: Option<FaultyAvp<'m>>) -> Draft<'m, 'o, 's, S>
         requires { FitsTell (fault_of told) }
         ensures { answer_of S.value result ≡ telling (fault_of told.entry) (answer_of S.value self.entry) }
     {

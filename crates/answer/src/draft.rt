@@ -9,7 +9,7 @@ use diameter::header::Header;
 use fieldset::FieldSet;
 use message::Origin;
 use refusal::ResultCode;
-use request::asking::Carried;
+use request::asking::FaultyAvp;
 
 /// An answer that parts may be added to. It is not `Drop`: it ends in `close`.
 pub struct Draft<'m, 'o, 's, S> {
@@ -19,7 +19,7 @@ pub struct Draft<'m, 'o, 's, S> {
     pub(crate) origin: Origin<'o>,
     pub(crate) source: &'s S,
     pub(crate) shown: FieldSet,
-    pub(crate) carried: Carried<'m>,
+    pub(crate) carried: Option<FaultyAvp<'m>>,
     ghost session_fits: { length session.now ≤ session_limit },
     ghost copy_there: { kept_of (fault_of carried) ≤ held_of (fault_of carried) },
     ghost copy_fits: { held_of (fault_of carried) ≤ copy_limit },

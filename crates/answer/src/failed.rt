@@ -11,7 +11,7 @@ ghost use Rattle.answer.specs.Faults.{kept, failed_avp, failed_size, kept_of, he
 
 use diameter::avp::AvpView;
 use dictionary::known::Known;
-use request::asking::Carried;
+use request::asking::FaultyAvp;
 use writer::avp::{avp_size, head_size, padding};
 use writer::writer::Writer;
 
@@ -55,26 +55,26 @@ fn put_lacking(w: &mut Writer<'_>, known: Known)
     );
 }
 
-pub(crate) fn put_failed(w: &mut Writer<'_>, carried: Carried<'_>)
+pub(crate) fn put_failed(w: &mut Writer<'_>, carried: Option<FaultyAvp<'_>>)
     requires { (room (failed_size (fault_of carried)) w.old) × ((kept_of (fault_of carried) ≤ held_of (fault_of carried)) × (held_of (fault_of carried) ≤ copy_limit)) }
     ensures wrote { Appends w.old (failed_avp (fault_of carried.entry)) w.new }
     ensures ends { w.new.end ≡ w.old.end + failed_size (fault_of carried.entry) }
 {
     match carried {
-        Carried::Nothing => {}
-        Carried::Copied(avp) => put_copied(w, avp),
-        Carried::Lacking(known) => put_lacking(w, known),
+        None => {}
+        Some(FaultyAvp::Present(avp)) => put_copied(w, avp),
+        Some(FaultyAvp::Missing(known)) => put_lacking(w, known),
     }
 }
 
-pub(crate) fn failed_size(carried: Carried<'_>) -> usize
+pub(crate) fn failed_size(carried: Option<FaultyAvp<'_>>) -> usize
     requires { (kept_of (fault_of carried) ≤ held_of (fault_of carried)) × (held_of (fault_of carried) ≤ copy_limit) }
     ensures is { result ≡ failed_size (fault_of carried.entry) }
     ensures most { result ≤ failed_most }
 {
     match carried {
-        Carried::Nothing => 0,
-        Carried::Copied(avp) => 8 + avp_size(avp.flags, avp.payload.len()),
-        Carried::Lacking(known) => 8 + avp_size(known.flags(), known.shortest()),
+        None => 0,
+        Some(FaultyAvp::Present(avp)) => 8 + avp_size(avp.flags, avp.payload.len()),
+        Some(FaultyAvp::Missing(known)) => 8 + avp_size(known.flags(), known.shortest()),
     }
 }

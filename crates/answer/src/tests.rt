@@ -7,7 +7,7 @@ use dictionary::known::Known;
 use fieldset::{Field, FieldSet};
 use message::Origin;
 use refusal::ResultCode;
-use request::asking::Carried;
+use request::asking::FaultyAvp;
 
 /// A user and a terminal.
 struct Sample;
@@ -65,7 +65,7 @@ fn missing_avp_is_told(rt: HostRuntime) {
     };
     let draft = Draft::new(asked, b"s", ResultCode::Base(5005), origin, &NoFields);
     let size = draft
-        .tell(Carried::Lacking(Known::SubsReqType))
+        .tell(Some(FaultyAvp::Missing(Known::SubsReqType)))
         .close()
         .write(&mut out);
     assert!(rt; size == 136);

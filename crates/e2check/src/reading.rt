@@ -1,7 +1,7 @@
 //! What is printed of a request that was read, or of its refusal.
 use diameter::avp::AvpView;
 use dictionary::address::AddressView;
-use request::asking::{Asked, Carried, Rejection, Request, Target};
+use request::asking::{Asked, FaultyAvp, Rejection, Request, Target};
 use std::io;
 use std::io::Write;
 
@@ -97,10 +97,10 @@ pub fn print_reading<'a, W: Write>(
 ) -> io::Result<()> {
     match reading {
         Ok(request) => print_request(out, request),
-        Err(rejection) => match rejection.carried {
-            Carried::Nothing => Ok(()),
-            Carried::Copied(AvpView { code, vendor, .. }) => print_name(out, code, vendor),
-            Carried::Lacking(known) => print_name(out, known.code(), known.vendor()),
+        Err(rejection) => match rejection.faulty {
+            None => Ok(()),
+            Some(FaultyAvp::Present(AvpView { code, vendor, .. })) => print_name(out, code, vendor),
+            Some(FaultyAvp::Missing(known)) => print_name(out, known.code(), known.vendor()),
         },
     }
 }

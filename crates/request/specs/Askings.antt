@@ -4,7 +4,7 @@
 --     Fault            what the answer to a refused one tells of its AVPs
 --     Rejected         why it is refused, with that
 --     asking_of, rejected_of, rejected_found, reading_of   what the code's borrowed values mean
-use Rattle.std.specs.Prelude.{ℕ, List, Ok, Err, Option, Result}
+use Rattle.std.specs.Prelude.{ℕ, List, Some, None, Ok, Err, Option, Result}
 use Rattle.std.specs.Option.{option_map}
 use Rattle.refusal.specs.declared.Refusal.{Refusal}
 use Rattle.diameter.specs.Lists.{Avp}
@@ -15,8 +15,8 @@ use Rattle.request.specs.declared.asking.Asked.{Asked}
 use Rattle.request.specs.declared.asking.Target.{Target}
 use Rattle.request.specs.declared.asking.Target.TheVariants.{Address as ByAddress, User as ByUser}
 use Rattle.request.specs.declared.asking.Request.{Request}
-use Rattle.request.specs.declared.asking.Carried.{Carried}
-use Rattle.request.specs.declared.asking.Carried.TheVariants.{Nothing, Copied, Lacking}
+use Rattle.request.specs.declared.asking.FaultyAvp.{FaultyAvp}
+use Rattle.request.specs.declared.asking.FaultyAvp.TheVariants.{Present, Missing}
 use Rattle.request.specs.declared.asking.Rejection.{Rejection}
 
 pub data Subject : Type 0 where
@@ -45,13 +45,13 @@ subject_of (ByUser name) = of_user name.now
 abbrev pub asking_of : Request → Asking
 asking_of r = record { asked = r.asked; subject = subject_of r.target; host = r.host.now; realm = r.realm.now }
 
-abbrev pub fault_of : Carried → Fault
-fault_of Nothing = nothing
-fault_of (Copied a) = copied (avp_of a)
-fault_of (Lacking k) = lacks k
+abbrev pub fault_of : Option FaultyAvp → Fault
+fault_of None = nothing
+fault_of (Some (Present a)) = copied (avp_of a)
+fault_of (Some (Missing k)) = lacks k
 
 abbrev pub rejected_of : Rejection → Rejected
-rejected_of r = record { refusal = r.refusal; carries = fault_of r.carried }
+rejected_of r = record { refusal = r.refusal; carries = fault_of r.faulty }
 
 abbrev pub rejected_found : Option Rejection → Option Rejected
 rejected_found r = option_map rejected_of r

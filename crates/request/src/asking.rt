@@ -35,19 +35,18 @@ pub struct Request<'a> {
     pub realm: &'a [u8],
 }
 
-/// What the answer to a refused request tells of its AVPs.
+/// The AVP that a request is refused for.
 #[derive(Clone, Copy)]
-pub enum Carried<'a> {
-    Nothing,
-    /// This AVP is at fault.
-    Copied(AvpView<'a>),
-    /// This one is missing.
-    Lacking(Known),
+pub enum FaultyAvp<'a> {
+    /// It stands in the request, as it should not.
+    Present(AvpView<'a>),
+    /// The request needs it and does not have it.
+    Missing(Known),
 }
 
-/// Why a request is refused, and what its answer carries.
+/// Why a request is refused, and the AVP at fault, where one is; the answer carries it.
 #[derive(Clone, Copy)]
 pub struct Rejection<'a> {
     pub refusal: Refusal,
-    pub carried: Carried<'a>,
+    pub faulty: Option<FaultyAvp<'a>>,
 }

@@ -10,7 +10,7 @@ ghost use Rattle.dictionary.specs.Names.{index};
 ghost use Rattle.request.specs.Askings.{subject_of, rejected_found, asking_of, reading_of};
 ghost use Rattle.request.specs.Readings.{first_fault, faults, payload_at, requested, events, end, asked, by_address, asking, reading, right_session, session_id};
 
-use crate::asking::{Asked, Carried, Rejection, Request, Target};
+use crate::asking::{Asked, FaultyAvp, Rejection, Request, Target};
 use crate::finding::{find, first_avp, is_named, payload_of};
 use crate::number::{Numbers, union_of};
 use crate::scan::{Scan, walk};
@@ -133,31 +133,31 @@ fn find_fault<'a>(
     if let Some(avp) = scan.stranger {
         return Some(Rejection {
             refusal: Refusal::UnsupportedAvp,
-            carried: Carried::Copied(avp),
+            faulty: Some(FaultyAvp::Present(avp)),
         });
     }
     if let Some(avp) = scan.repeat {
         return Some(Rejection {
             refusal: Refusal::RepeatedAvp,
-            carried: Carried::Copied(avp),
+            faulty: Some(FaultyAvp::Present(avp)),
         });
     }
     if let Some(known) = find_missing(command, is_headed(bytes), &scan) {
         return Some(Rejection {
             refusal: Refusal::MissingAvp,
-            carried: Carried::Lacking(known),
+            faulty: Some(FaultyAvp::Missing(known)),
         });
     }
     if let Some(avp) = scan.misfit {
         return Some(Rejection {
             refusal: Refusal::WrongAvp,
-            carried: Carried::Copied(avp),
+            faulty: Some(FaultyAvp::Present(avp)),
         });
     }
     let avp = find_foreign(bytes, name)?;
     Some(Rejection {
         refusal: Refusal::WrongAf,
-        carried: Carried::Copied(avp),
+        faulty: Some(FaultyAvp::Present(avp)),
     })
 }
 
@@ -260,7 +260,7 @@ pub fn read_request<'a>(
         Ok(command) => command,
         Err(refusal) => return Err(Rejection {
             refusal,
-            carried: Carried::Nothing,
+            faulty: None,
         }),
     };
     let avps = body_of(message);
