@@ -57,6 +57,7 @@ pub fn equality_is_sameness()
 {}
 
 /// Two addresses have the same key exactly when they are the same.
+#[tactic(auto, using(crate::proofs::Spelt::spelt))]
 pub fn spelling_tells_apart()
     ensures { (p q : Meant) → bytes_eq (spelling p) (spelling q) ≡ same p q }
 {}

@@ -4,22 +4,26 @@ ghost use Rattle.table.specs.Laws.{ChoiceLaws, RoomCounted, ToldHere, ToldElsewh
 use crate::place::Place;
 
 /// The place chosen for a new entry is within, is free, is there exactly when some place is free, and hangs on nothing but which places are taken.
+#[tactic(auto, using(crate::proofs::Lawful::choice_laws))]
 pub fn choice_is_free<P: Place>()
     ensures { ChoiceLaws P.taken }
 {}
 
 /// Some place is free exactly when fewer are taken than there are.
+#[tactic(auto, using(crate::proofs::Lawful::room_counted))]
 pub fn room_is_counted<P: Place>()
     ensures { RoomCounted P.taken }
 {}
 
 /// After a step the map is changed at its key, and nowhere else.
+#[tactic(auto, using(crate::proofs::Lawful::told_here, crate::proofs::Lawful::told_elsewhere))]
 pub fn steps_are_told<P: Place>()
     ensures here { ToldHere P.taken P.key P.entry }
     ensures elsewhere { ToldElsewhere P.taken P.key P.entry }
 {}
 
 /// Freed places serve again.
+#[tactic(auto, using(crate::proofs::Lawful::freed_serves))]
 pub fn freed_places_serve<P: Place>()
     ensures { FreedServes P.taken P.key P.entry }
 {}
@@ -30,6 +34,7 @@ pub fn sweeps_are_told<P: Place>()
 {}
 
 /// No two taken places have the same key, said of any two of them.
+#[tactic(auto, using(crate::proofs::Lawful::distinct_means))]
 pub fn distinct_is_of_any_two<P: Place>()
     ensures { DistinctMeans P.taken P.key }
 {}
@@ -40,6 +45,7 @@ pub fn number_is_of_the_map<P: Place>()
 {}
 
 /// Places that are all free are a table without entries.
+#[tactic(auto, using(crate::proofs::Lawful::empty_table))]
 pub fn free_places_are_empty<P: Place>()
     ensures { EmptyTable P.taken P.key P.entry }
 {}
