@@ -72,6 +72,7 @@ pub fn records_apart()
 {}
 
 /// Acknowledged, given up and lost never fall.
+#[tactic(auto, using(crate::proofs::Counts::counts_rise))]
 pub fn counts_rise()
     ensures { CountsRise }
 {}
