@@ -25,10 +25,8 @@ impl<B: RuleBook> Embargo<B> {
         ensures shut { told (λ e. e.shut.bits) result ≡ judged ((WrongOpening, nat_le 1024 fields) ∷ []) fields }
         ensures book { told (λ e. e.book) result ≡ judged ((WrongOpening, nat_le 1024 fields) ∷ []) book }
     {
-        match FieldSet::from_bits(fields) {
-            Some(shut) => Ok(Embargo { book, shut }),
-            None => Err(Refusal::WrongOpening),
-        }
+        let shut = FieldSet::from_bits(fields).ok_or(Refusal::WrongOpening)?;
+        Ok(Embargo { book, shut })
     }
 
     /// What an AF sees under the embargo of a session that withholds some fields: nothing that is shut.

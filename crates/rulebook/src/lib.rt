@@ -1,12 +1,13 @@
 //! Who may see what: the sheet of application functions, the rule books, and the view of a session.
 #![tactic(auto)]
 
+mod af;
 mod book;
 mod embargo;
 mod entering;
-mod name;
 mod rank_book;
 mod ranks;
+mod rights;
 mod row;
 mod sheet;
 mod sheet_book;

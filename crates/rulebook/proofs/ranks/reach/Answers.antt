@@ -1,34 +1,20 @@
-use Rattle.std.proofs.Common.{◌≡◌, ℕ, ◌+◌, ◌-◌, ◌*◌, leb, get_or, drop, sym, ap, ◌∙◌, arith}
-use mir.Val.{bool_byte}
-use Rattle.std.proofs.lemmas.List.{at_drop_all}
+use Rattle.std.proofs.Common.{◌≡◌, ◌∙◌, ap, mod-eq_of_lt, arith}
+use Rattle.std.proofs.lemmas.List.{take_all}
 use Rattle.rulebook.specs.Books.{reached}
-use Rattle.rulebook.proofs.Reached.{reached_small, reached_back, byte_small}
+use Rattle.rulebook.proofs.Reached.{reached_here, reached_not, reached_below}
 use Rattle.rulebook.proofs.ranks.reach.Goals as goal
-
-pub loop-k-init : goal.loop-k-init
-loop-k-init c = sym (at_drop_all (reached c.args.rank) c.args.needs.now 10 (omega arith))
-
-pub overflow_mul-bits : goal.overflow_mul-bits
-overflow_mul-bits c = omega (arith, c.loop-k.invariant, reached_small c.args.rank c.args.needs.now c.loop-k.k c.requires)
-
-pub overflow_add-bits : goal.overflow_add-bits
-overflow_add-bits c =
-    omega (
-      arith,
-      c.loop-k.invariant,
-      reached_small c.args.rank c.args.needs.now c.loop-k.k c.requires,
-      byte_small (leb (get_or c.args.needs.now (c.loop-k.k - 1) 0) c.args.rank),
-    )
+use Rattle.rulebook.proofs.ranks.reach.Goals.{then-need-rank, else-need-rank}
 
 pub loop-k-preserved : goal.loop-k-preserved
 loop-k-preserved c =
-    ap (λ (b : ℕ). 2 * b + bool_byte (leb (get_or c.args.needs.now (c.loop-k.k - 1) 0) c.args.rank)) c.loop-k.invariant
-    ∙ reached_back c.args.rank c.args.needs.now c.loop-k.k (omega arith) (omega arith)
+    elim c.if-need-rank.branch [
+      | then-need-rank w ↦ w.bits-is ∙ reached_here c.args.rank c.args.needs.now c.loop-k.k c.loop-k.bits (omega arith) (omega arith) w.if-need-rank.true c.loop-k.invariant
+      | else-need-rank w ↦ w.bits-is ∙ reached_not c.args.rank c.args.needs.now c.loop-k.k c.loop-k.bits (omega arith) w.if-need-rank.false c.loop-k.invariant
+    ]
 
 pub returns : goal.returns
 returns c =
-    let z : c.loop-k.k ≡ 0 = omega arith in
-    record {
-      is = c.loop-k.invariant ∙ ap (λ (n : ℕ). reached c.args.rank (drop n c.args.needs.now)) z;
-      small = omega (arith, c.loop-k.invariant, reached_small c.args.rank c.args.needs.now c.loop-k.k c.requires);
-    }
+    let all : c.loop-k.bits ≡ reached c.args.rank c.args.needs.now =
+    c.loop-k.invariant ∙ ap (reached c.args.rank) (take_all c.loop-k.k c.args.needs.now (omega arith)) in
+    let l = reached_below c.args.rank c.args.needs.now 10 (omega arith) in
+    c.from_bits_truncate.ensures ∙ mod-eq_of_lt (omega arith) ∙ all
