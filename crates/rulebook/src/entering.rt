@@ -4,7 +4,7 @@ ghost use Rattle.std.specs.List.{list_any};
 ghost use Rattle.std.specs.Str.{bytes_eq};
 ghost use Rattle.refusal.specs.Verdicts.{judged, told};
 ghost use Rattle.refusal.specs.declared.Refusal.TheVariants.{WrongRow};
-ghost use Rattle.rulebook.specs.Kept.{kept as kept_of};
+ghost use Rattle.rulebook.specs.Kept.{kept};
 ghost use Rattle.rulebook.specs.Sheets.{wrong_name, wrong_names, wrong_rows, entered_name, entered_row, entered};
 
 use crate::af::Af;
@@ -35,11 +35,11 @@ pub(crate) fn has_wrong_name(afs: &[AfRow<'_>]) -> bool
         .any(|(k, af)| is_wrong_name(&afs[..k], af.name))
 }
 
-/// The application functions as they are kept.
-pub(crate) fn kept(afs: &[AfRow<'_>]) -> Result<[Af; 32], Refusal>
+/// The application functions as they are kept, where each row is sound.
+pub(crate) fn keep(afs: &[AfRow<'_>]) -> Result<[Af; 32], Refusal>
     requires few { length afs.now ≤ 32 }
     requires named { wrong_names entered_name afs.now ≡ false }
-    ensures { told (kept_of (length afs.now)) result ≡ judged ((WrongRow, wrong_rows entered_row afs.now) ∷ []) (entered afs.now) }
+    ensures { told (kept (length afs.now)) result ≡ judged ((WrongRow, wrong_rows entered_row afs.now) ∷ []) (entered afs.now) }
 {
     let mut kept = [Af::nameless(); 32];
     for (k, af) in afs.iter().enumerate() {

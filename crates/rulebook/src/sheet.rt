@@ -1,5 +1,5 @@
 //! The sheet of application functions: a checked value with their names and their rows.
-ghost use Rattle.std.specs.Prelude.{◌≡◌, ◌≤◌, length};
+ghost use Rattle.std.specs.Prelude.{◌≤◌};
 ghost use Rattle.refusal.specs.Verdicts.{Unrefused};
 ghost use Rattle.rulebook.specs.Kept.{kept};
 ghost use Rattle.rulebook.specs.Sheets.{sheet_refusals};
@@ -15,6 +15,5 @@ pub struct AfSheet {
     pub(crate) afs: [Af; 32],
     pub(crate) len: u8,
     ghost fits: { len ≤ 32 },
-    ghost full: { length (kept len afs) ≡ len },
     ghost sound: { Unrefused (sheet_refusals (kept len afs)) },
 }

@@ -7,7 +7,7 @@ ghost use Rattle.rulebook.specs.Sheets.{entered, names, rows, sheet_refusals};
 ghost use Rattle.rulebook.specs.Listed.{listing};
 
 use crate::af::Af;
-use crate::entering::{has_wrong_name, kept};
+use crate::entering::{has_wrong_name, keep};
 use crate::row::{AfRow, Row};
 use crate::sheet::AfSheet;
 use refusal::Refusal;
@@ -25,7 +25,7 @@ impl AfSheet {
             return Err(Refusal::WrongName);
         }
         Ok(AfSheet {
-            afs: kept(afs)?,
+            afs: keep(afs)?,
             len: afs.len() as u8,
         })
     }

@@ -1,7 +1,7 @@
 use Rattle.std.proofs.Common.{◌∙◌, arith}
 use Rattle.std.proofs.lemmas.List.{length-set}
 use Rattle.rulebook.proofs.Entered.{kept_more, right_more}
-use Rattle.rulebook.proofs.entering.kept.Goals as goal
+use Rattle.rulebook.proofs.entering.keep.Goals as goal
 
 pub loop-k-preserved : goal.loop-k-preserved
 loop-k-preserved c = record {
