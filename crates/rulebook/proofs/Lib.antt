@@ -1,4 +1,4 @@
-pub mod Below
+pub mod Tested
 pub mod Entered
 pub mod Reached
-pub mod Rights
+pub mod Answering

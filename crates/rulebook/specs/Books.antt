@@ -9,11 +9,12 @@
 --     above_three ns       some number of ns is above 3
 --     rank_refusals rs ns  the refusals of a rank book with the ranks rs and the needs ns
 --     rank_rights b        the rows of a rank book, by AF number
-use Rattle.std.specs.Prelude.{◌≡◌, ℕ, ◌+◌, ◌*◌, ◌%◌, Bool, cond, List, [], ◌∷◌, map, length, take, ◌==◌, nat_le, nat_lt, slice_index, slice_index_or}
+use Rattle.std.specs.Prelude.{◌≡◌, ℕ, ◌+◌, ◌*◌, ◌%◌, Bool, cond, List, [], ◌∷◌, map, length, take, ◌==◌, nat_le, nat_lt, slice_index_or}
+use Rattle.std.specs.List.{list_any}
 use Rattle.refusal.specs.declared.Refusal.{Refusal}
 use Rattle.refusal.specs.declared.Refusal.TheVariants.{WrongOpening}
 use Rattle.rulebook.specs.Rows.{blank}
-use Rattle.rulebook.specs.Sheets.{Listing, some_below}
+use Rattle.rulebook.specs.Sheets.{Entry}
 use Rattle.rulebook.specs.declared.row.Row.{Row}
 use Rattle.rulebook.specs.declared.rank_book.RankBook.{RankBook}
 use Rattle.rulebook.specs.declared.sheet_book.SheetBook.{SheetBook}
@@ -37,11 +38,11 @@ reached rank (n ∷ ns) = cond (nat_le n rank) 1 0 + 2 * reached rank ns
 abbrev pub rank_row : List ℕ → ℕ → Row
 rank_row needs rank = record { allowed = reached rank needs; overriding = cond (rank == 3) (reached rank needs) 0 }
 
-abbrev pub ranked : Listing → List ℕ → List ℕ → List Row
-ranked s ranks needs = map (rank_row needs) (take (length s.rows) ranks)
+abbrev pub ranked : List Entry → List ℕ → List ℕ → List Row
+ranked s ranks needs = map (rank_row needs) (take (length s) ranks)
 
 abbrev pub above_three : List ℕ → Bool
-above_three ns = some_below (λ k. nat_lt 3 (slice_index ns k)) (length ns)
+above_three ns = list_any (λ n. nat_lt 3 n) ns
 
 abbrev pub rank_refusals : List ℕ → List ℕ → List (Refusal × Bool)
 rank_refusals ranks needs = (WrongOpening, above_three ranks) ∷ (WrongOpening, above_three needs) ∷ []

@@ -25,12 +25,11 @@ impl<B: RuleBook> Embargo<B> {
         ensures shut { told (λ e. e.shut.bits) result ≡ judged ((WrongOpening, nat_le 1024 fields) ∷ []) fields }
         ensures book { told (λ e. e.book) result ≡ judged ((WrongOpening, nat_le 1024 fields) ∷ []) book }
     {
-        match FieldSet::from_bits(fields) {
-            Some(shut) => Ok(Embargo { book, shut }),
-            None => Err(Refusal::WrongOpening),
-        }
+        let shut = FieldSet::from_bits(fields).ok_or(Refusal::WrongOpening)?;
+        Ok(Embargo { book, shut })
     }
 
+    #[tactic(auto, using(fieldset::proofs::Laws::has_minus))]
     /// What an AF sees under the embargo of a session that withholds some fields: nothing that is shut.
     pub fn view(&self, af: u32, withheld: FieldSet) -> FieldSet
         ensures is { result.bits ≡ view_under self.now.shut.bits (B.RuleBook.allows self.now.book af) (B.RuleBook.overrides self.now.book af) withheld.bits }

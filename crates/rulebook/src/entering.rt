@@ -1,95 +1,49 @@
-//! Application functions on their way into a sheet: the tests that they pass, and the copies that are kept.
-ghost use Rattle.std.specs.Prelude.{◌≡◌, ◌<◌, ◌≤◌, false, [], map, length, take, slice_index_or};
+//! Application functions on their way into a sheet: the tests that they pass, and how they are kept.
+ghost use Rattle.std.specs.Prelude.{◌≡◌, ◌≤◌, false, [], ◌∷◌, map, length};
+ghost use Rattle.std.specs.List.{list_any};
 ghost use Rattle.std.specs.Str.{bytes_eq};
-ghost use Rattle.rulebook.specs.Sheets.{some_below, wrong_name, wrong_names, wrong_rows, entered_name, entered_row, names_of};
+ghost use Rattle.refusal.specs.Verdicts.{judged, told};
+ghost use Rattle.refusal.specs.declared.Refusal.TheVariants.{WrongRow};
+ghost use Rattle.rulebook.specs.Kept.{kept};
+ghost use Rattle.rulebook.specs.Sheets.{wrong_name, wrong_names, wrong_rows, entered_name, entered_row, entered};
 
-use crate::name::Name;
-use crate::row::{AfRow, Row};
+use crate::af::Af;
+use crate::row::AfRow;
+use refusal::Refusal;
 
-/// Whether a name stands earlier too.
-fn named_before(afs: &[AfRow<'_>], k: usize) -> bool
-    requires { k < length afs.now }
-    ensures { result ≡ some_below (λ j. bytes_eq (slice_index_or (map entered_name afs.now) j []) (slice_index_or (map entered_name afs.now) k [])) k }
+/// Whether an application function has this name.
+fn is_taken(afs: &[AfRow<'_>], name: &[u8]) -> bool
+    ensures { result ≡ list_any (λ a. bytes_eq (entered_name a) name.now) afs.now }
 {
-    for j in 0..k {
-        if afs[j].name == afs[k].name {
-            return true;
-        }
-    }
-    false
+    afs.iter().any(|af| af.is_named(name))
 }
 
-/// Whether a name is empty, too long or used before.
-fn is_wrong_name(afs: &[AfRow<'_>], k: usize) -> bool
-    requires { k < length afs.now }
-    ensures { result ≡ wrong_name (map entered_name afs.now) k }
+/// Whether a name is empty, too long or that of an earlier application function.
+#[tactic(auto, using(crate::proofs::Tested::list_any_entered))]
+fn is_wrong_name(earlier: &[AfRow<'_>], name: &[u8]) -> bool
+    ensures { result ≡ wrong_name (map entered_name earlier.now) name.now }
 {
-    let len = afs[k].name.len();
-    if len == 0 || len > 64 {
-        return true;
-    }
-    named_before(afs, k)
+    name.is_empty() || name.len() > 64 || is_taken(earlier, name)
 }
 
 /// Whether some name is wrong.
 pub(crate) fn has_wrong_name(afs: &[AfRow<'_>]) -> bool
-    ensures { result ≡ wrong_names (map entered_name afs.now) }
+    ensures { result ≡ wrong_names entered_name afs.now }
 {
-    for k in 0..afs.len() {
-        if is_wrong_name(afs, k) {
-            return true;
-        }
-    }
-    false
+    afs.iter()
+        .enumerate()
+        .any(|(k, af)| is_wrong_name(&afs[..k], af.name))
 }
 
-impl AfRow<'_> {
-    fn row(&self) -> Row
-        ensures { result ≡ entered_row self.now }
-    {
-        Row {
-            allowed: self.allowed,
-            overriding: self.overriding,
-        }
-    }
-}
-
-/// Whether a row is wrong.
-pub(crate) fn has_wrong_row(afs: &[AfRow<'_>]) -> bool
-    ensures { result ≡ wrong_rows (map entered_row afs.now) }
-{
-    for k in 0..afs.len() {
-        if afs[k].row().is_wrong() {
-            return true;
-        }
-    }
-    false
-}
-
-/// The names as they are kept.
-pub(crate) fn kept_names(afs: &[AfRow<'_>]) -> [Name; 32]
+/// The application functions as they are kept, where each row is sound.
+pub(crate) fn keep(afs: &[AfRow<'_>]) -> Result<[Af; 32], Refusal>
     requires few { length afs.now ≤ 32 }
-    requires right { wrong_names (map entered_name afs.now) ≡ false }
-    ensures { names_of (length afs.now) result ≡ map entered_name afs.now }
+    requires named { wrong_names entered_name afs.now ≡ false }
+    ensures { told (kept (length afs.now)) result ≡ judged ((WrongRow, wrong_rows entered_row afs.now) ∷ []) (entered afs.now) }
 {
-    let mut names = [Name::new(b""); 32];
-    for k in 0..afs.len() {
-        names[k] = Name::new(afs[k].name);
+    let mut kept = [Af::nameless(); 32];
+    for (k, af) in afs.iter().enumerate() {
+        kept[k] = Af::try_from(*af)?;
     }
-    names
-}
-
-/// The rows as they are kept.
-pub(crate) fn kept_rows(afs: &[AfRow<'_>]) -> [Row; 32]
-    requires few { length afs.now ≤ 32 }
-    ensures { take (length afs.now) result ≡ map entered_row afs.now }
-{
-    let mut rows = [Row {
-        allowed: 0,
-        overriding: 0,
-    }; 32];
-    for k in 0..afs.len() {
-        rows[k] = afs[k].row();
-    }
-    rows
+    Ok(kept)
 }

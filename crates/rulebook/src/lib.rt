@@ -1,12 +1,13 @@
 //! Who may see what: the sheet of application functions, the rule books, and the view of a session.
 #![tactic(auto)]
 
+mod af;
 mod book;
 mod embargo;
 mod entering;
-mod name;
 mod rank_book;
 mod ranks;
+mod rights;
 mod row;
 mod sheet;
 mod sheet_book;
@@ -58,21 +59,17 @@ mod tests {
 
     #[test]
     fn sheets_are_refused(rt: HostRuntime) {
-        assert!(rt; refused(&[]) == 26);
-        assert!(rt; refused(&[VOICE, VOICE]) == 27);
-        assert!(rt;
-            refused(&[AfRow {
-                name: b"video",
-                allowed: 1,
-                overriding: 2,
-            }],) == 28
-        );
+        assert_eq!(rt; refused(&[]), Some(26));
+        assert_eq!(rt; refused(&[VOICE, VOICE]), Some(27));
+        let video = AfRow {
+            name: b"video",
+            allowed: 1,
+            overriding: 2,
+        };
+        assert_eq!(rt; refused(&[video]), Some(28));
     }
 
-    fn refused(afs: &[AfRow<'_>]) -> u8 {
-        match AfSheet::new(afs) {
-            Ok(_) => 0,
-            Err(e) => e.number(),
-        }
+    fn refused(afs: &[AfRow<'_>]) -> Option<u8> {
+        AfSheet::new(afs).err().map(Refusal::number)
     }
 }

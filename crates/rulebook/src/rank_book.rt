@@ -21,19 +21,17 @@ pub struct RankBook {
 impl RankBook {
     /// The book of the ranks of a sheet's AFs, by number, and of the needs of the ten fields. An AF without a rank has no
     /// rights, and ranks past the sheet are of no AF.
+    #[tactic(auto, using(crate::proofs::Reached::reached_each))]
     pub fn new(sheet: &AfSheet, ranks: &[u8], needs: &[u8; 10]) -> Result<RankBook, Refusal>
         ensures rights { told rank_rights result ≡ judged (rank_refusals ranks.now needs.now) (ranked (listing sheet.now) ranks.now needs.now) }
         ensures answers { elim result [ Ok b ↦ AnswersBy (ranked (listing sheet.now) ranks.now needs.now) b.rows | Err e ↦ Unit {0} ] }
         ensures each { (rank k : ℕ) → k < 10 → has (reached rank needs.now) k ≡ nat_le (slice_index needs.now k) rank }
     {
-        if has_above_three(ranks) {
-            return Err(Refusal::WrongOpening);
-        }
-        if has_above_three(needs) {
+        if has_above_three(ranks) || has_above_three(needs) {
             return Err(Refusal::WrongOpening);
         }
         let count = usize::from(sheet.len()).min(ranks.len());
-        let rows = rank_rows(&ranks[0..count], needs);
+        let rows = rank_rows(&ranks[..count], needs);
         Ok(RankBook {
             rows: SheetBook {
                 rows,

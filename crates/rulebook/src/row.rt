@@ -1,11 +1,13 @@
 //! The rights of one application function, as two plain numbers.
 ghost use Rattle.std.specs.Prelude.{◌≡◌};
+ghost use Rattle.std.specs.Str.{bytes_eq};
 ghost use Rattle.rulebook.specs.Rows.{wrong_row};
+ghost use Rattle.rulebook.specs.Sheets.{entered_name, entered_row};
 
-use fieldset::FieldSet;
+use crate::rights::Rights;
 
 /// The fields that an application function may see, and those that it may see though they are withheld: field `k` as 2^k.
-#[derive(Clone, Copy, PartialEq, Eq, Debug)]
+#[derive(Clone, Copy, PartialEq, Eq, Debug, Default)]
 pub struct Row {
     pub allowed: u16,
     pub overriding: u16,
@@ -24,12 +26,27 @@ impl Row {
     pub fn is_wrong(self) -> bool
         ensures { result ≡ wrong_row self }
     {
-        let Some(allowed) = FieldSet::from_bits(self.allowed) else {
-            return true;
-        };
-        let Some(overriding) = FieldSet::from_bits(self.overriding) else {
-            return true;
-        };
-        !overriding.is_subset(allowed)
+        Rights::try_from(self).is_err()
+    }
+}
+
+impl AfRow<'_> {
+    /// Whether it has this name.
+    #[tactic(auto, using(crate::proofs::Tested::same_text))]
+    pub(crate) fn is_named(&self, name: &[u8]) -> bool
+        ensures { result ≡ bytes_eq (entered_name self.now) name.now }
+    {
+        self.name == name
+    }
+}
+
+impl From<AfRow<'_>> for Row {
+    ghost from_gives = { λ af row. row ≡ entered_row af };
+
+    fn from(af: AfRow<'_>) -> Row {
+        Row {
+            allowed: af.allowed,
+            overriding: af.overriding,
+        }
     }
 }

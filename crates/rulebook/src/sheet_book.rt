@@ -2,6 +2,7 @@
 ghost use Rattle.std.specs.Prelude.{◌≡◌, slice_index_or};
 ghost use Rattle.rulebook.specs.Rows.{blank};
 ghost use Rattle.rulebook.specs.Listed.{listing};
+ghost use Rattle.rulebook.specs.Sheets.{rows};
 ghost use Rattle.rulebook.specs.Books.{rights, AnswersBy, sheet_allows, sheet_overrides};
 
 use crate::book::RuleBook;
@@ -10,6 +11,7 @@ use crate::sheet::AfSheet;
 use fieldset::FieldSet;
 
 /// The first `count` rows, by number. They are plain numbers, and a set is made of one when it is read.
+// An array with a length, since whoever has a book may write and put back a row, and it takes no memory from the heap.
 #[derive(Clone, Copy)]
 pub struct SheetBook {
     pub rows: [Row; 32],
@@ -19,11 +21,11 @@ pub struct SheetBook {
 impl SheetBook {
     /// The book of a sheet.
     pub fn new(sheet: &AfSheet) -> SheetBook
-        ensures rights { rights result ≡ (listing sheet.now).rows }
-        ensures answers { AnswersBy (listing sheet.now).rows result }
+        ensures rights { rights result ≡ rows (listing sheet.now) }
+        ensures answers { AnswersBy (rows (listing sheet.now)) result }
     {
         SheetBook {
-            rows: sheet.rows,
+            rows: sheet.afs.map(|af| Row::from(af.rights)),
             count: sheet.len,
         }
     }
@@ -32,15 +34,11 @@ impl SheetBook {
     pub fn row(&self, af: u32) -> Row
         ensures { result ≡ slice_index_or (rights self.now) af blank }
     {
-        let rows = &self.rows[..];
-        let count = usize::from(self.count).min(rows.len());
-        if (af as usize) < count {
-            return rows[af as usize];
-        }
-        Row {
-            allowed: 0,
-            overriding: 0,
-        }
+        let count = usize::from(self.count).min(self.rows.len());
+        self.rows[..count]
+            .get(af as usize)
+            .copied()
+            .unwrap_or_default()
     }
 }
 
