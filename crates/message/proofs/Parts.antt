@@ -1,7 +1,7 @@
 -- AVPs as values: their bytes, that they fit, and that they are sound.
 use Rattle.std.proofs.Common.{◌≡◌, ℕ, zero, suc, ◌^◌, ◌<◌, ◌≤◌, Bool, true, false, cond, eqb, List, [], ◌∷◌, ◌++◌, length, sym, refl, ap, ◌∙◌, append_assoc, append-nil, arith, length-append}
-use Rattle.std.specs.List.{AllByRecursion}
-use Rattle.std.proofs.ByRecursion.{All-append, All-weaker}
+use Rattle.std.specs.List.{All}
+use Rattle.std.proofs.lemmas.List.Elements.{All-nil, All-cons, All-append, All-weaker}
 use Rattle.diameter.specs.Bytes.{flagged}
 use Rattle.diameter.specs.Soundness.{sound, walk}
 use Rattle.diameter.specs.Laws.{Sound}
@@ -53,21 +53,21 @@ field_fits k xs h =
     record { code_fits = omega arith; vendor_fits = omega arith; size_fits = omega arith }
 
 -- the members of a set are below its width
-one_below : (b : Bool) (d : ℕ) → AllByRecursion (λ k. k < suc d) (cond b (d ∷ []) [])
-one_below true d = (omega arith, tt)
-one_below false d = tt
+one_below : (b : Bool) (d : ℕ) → All (λ k. k < suc d) (cond b (d ∷ []) [])
+one_below true d = All-cons (λ k. k < suc d) d [] (omega arith) (All-nil (λ k. k < suc d))
+one_below false d = All-nil (λ k. k < suc d)
 
-pub members_below : (d n : ℕ) → AllByRecursion (λ k. k < d) (members d n)
+pub members_below : (d n : ℕ) → All (λ k. k < d) (members d n)
 unfolding members
-members_below zero n = tt
+members_below zero n = All-nil (λ k. k < zero)
 members_below (suc d) n =
     All-append (λ k. k < suc d) (members d n) (cond (has n d) (d ∷ []) [])
     (All-weaker (λ k. k < d) (λ k. k < suc d) (λ k h. omega arith) (members d n) (members_below d n))
     (one_below (has n d) d)
 
-pub unless_all : (P : Part → Type 0) (b : Bool) (p : Part) → P p → AllByRecursion P (cond b [] (p ∷ []))
-unless_all P true p h = tt
-unless_all P false p h = (h, tt)
+pub unless_all : (P : Part → Type 0) (b : Bool) (p : Part) → P p → All P (cond b [] (p ∷ []))
+unless_all P true p h = All-nil P
+unless_all P false p h = All-cons P p [] h (All-nil P)
 
 pub length_sender : (host realm : List ℕ) → length (sender_avps host realm) ≡ sender_size host realm
 length_sender host realm =
@@ -75,9 +75,8 @@ length_sender host realm =
     let r = length_avp 296 0x40 0 realm in
     omega (arith, length-append (avp 264 0x40 0 host) (avp 296 0x40 0 realm))
 
-pub all_both : {X : Type 0} (P Q : X → Type 0) (xs : List X) → AllByRecursion P xs → AllByRecursion Q xs → AllByRecursion (λ x. P x × Q x) xs
-all_both P Q [] p q = tt
-all_both P Q (x ∷ xs) p q = ((p.0, q.0), all_both P Q xs p.1 q.1)
+pub all_both : {X : Type 0} (P Q : X → Type 0) (xs : List X) → All P xs → All Q xs → All (λ x. P x × Q x) xs
+all_both P Q xs p q = λ k d l. (p k d l, q k d l)
 
 pub application_sound : Sound 3 application_part.payload
 unfolding sound walk
