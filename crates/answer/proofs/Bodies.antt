@@ -10,7 +10,6 @@ use Rattle.diameter.specs.Lists.{avps}
 use Rattle.fieldset.specs.Sets.{members}
 use Rattle.dictionary.specs.Names.{code, vendor, flags, shortest}
 use Rattle.dictionary.specs.declared.known.Known.{Known}
-use Rattle.dictionary.specs.declared.known.Known.TheVariants.{UserName, FramedIpAddress, VendorSpecificApplicationId, SessionId, OriginHost, AuthSessionState, RouteRecord, DestinationRealm, ProxyInfo, DestinationHost, OriginRealm, GloballyUniqueAddress, AddressRealm, RequestedInformation, EventType, AfApplicationIdentifier, SubsReqType, ExpiryTime}
 use Rattle.request.specs.Askings.{Fault, nothing, copied, lacks}
 use Rattle.writer.specs.Bytes.{bytes32, zeros}
 use Rattle.writer.specs.Avps.{avp}
@@ -61,24 +60,7 @@ unfolding answer_bytes
 body_of_answer a = refl
 
 pub shortest_le : (k : Known) → shortest k ≤ 4
-shortest_le UserName = omega arith
-shortest_le FramedIpAddress = omega arith
-shortest_le VendorSpecificApplicationId = omega arith
-shortest_le SessionId = omega arith
-shortest_le OriginHost = omega arith
-shortest_le AuthSessionState = omega arith
-shortest_le RouteRecord = omega arith
-shortest_le DestinationRealm = omega arith
-shortest_le ProxyInfo = omega arith
-shortest_le DestinationHost = omega arith
-shortest_le OriginRealm = omega arith
-shortest_le GloballyUniqueAddress = omega arith
-shortest_le AddressRealm = omega arith
-shortest_le RequestedInformation = omega arith
-shortest_le EventType = omega arith
-shortest_le AfApplicationIdentifier = omega arith
-shortest_le SubsReqType = omega arith
-shortest_le ExpiryTime = omega arith
+shortest_le k = grind arith
 
 -- a limit on what a Failed-AVP holds
 blank_le : (k : Known) → length (blank k) ≤ 2048

@@ -1,5 +1,5 @@
 -- What is read back from an answer: its header, its Session-Id, the fields that it shows; and that it fits.
-use Rattle.std.proofs.Common.{◌≡◌, ℕ, zero, suc, ◌+◌, ◌<◌, ◌≤◌, Bool, true, false, cond, eqb, List, [], ◌∷◌, ◌++◌, map, length, filter, sym, refl, ap, ◌∙◌, append-nil, arith}
+use Rattle.std.proofs.Common.{◌≡◌, ℕ, ◌+◌, ◌<◌, ◌≤◌, Bool, true, false, cond, eqb, List, [], ◌∷◌, ◌++◌, map, length, filter, sym, refl, ap, ◌∙◌, append-nil, arith}
 use mathlib.Core.List.{map-append}
 use lib.ListN.{length-map}
 use Rattle.std.specs.List.{All}
@@ -18,7 +18,7 @@ use Rattle.writer.specs.Avps.{avp_size}
 use Rattle.writer.specs.Parts.{Part, part_avp, parts_size}
 use Rattle.writer.proofs.Written.{header_read_back}
 use Rattle.message.specs.Limits.{session_limit, field_limit}
-use Rattle.answer.specs.Limits.{failed_most}
+use Rattle.answer.specs.Limits.{copy_limit}
 use Rattle.message.specs.Fields.{field_part, field_parts, limits_size, is_field}
 use Rattle.answer.specs.Faults.{failed_size}
 use Rattle.answer.specs.Answers.{answer_flags, session_size, result_size, answer_body, answer_bytes}
@@ -38,7 +38,7 @@ result_le : (r : ResultCode) → result_size r ≤ 32
 result_le (Base c) = omega arith
 result_le (Experimental c) = omega arith
 
-failed_le : (f : Fault) → FitsTell f → failed_size f ≤ failed_most
+failed_le : (f : Fault) → FitsTell f → failed_size f ≤ 8 + copy_limit
 failed_le nothing h = omega arith
 failed_le (copied a) h = let t = h.there in let s = h.short in omega arith
 failed_le (lacks k) h = let s = shortest_le k in omega (arith, head_le (flags k))
@@ -83,17 +83,7 @@ session_repeats a b h =
     ∙ ap (λ (t : Bool). first_such (named 263 0) (map part_avp ((cond t [] (one 263 a.session ∷ []) ++ (application_part ∷ result_part a.result ∷ sender_parts a.host a.realm)) ++ rest))) some
 
 field_named : (k : ℕ) (xs : List ℕ) → k < 10 → is_field (part_avp (field_part k xs)) ≡ true
-field_named zero xs h = refl
-field_named (suc zero) xs h = refl
-field_named (suc (suc zero)) xs h = refl
-field_named (suc (suc (suc zero))) xs h = refl
-field_named (suc (suc (suc (suc zero)))) xs h = refl
-field_named (suc (suc (suc (suc (suc zero))))) xs h = refl
-field_named (suc (suc (suc (suc (suc (suc zero)))))) xs h = refl
-field_named (suc (suc (suc (suc (suc (suc (suc zero))))))) xs h = refl
-field_named (suc (suc (suc (suc (suc (suc (suc (suc zero)))))))) xs h = refl
-field_named (suc (suc (suc (suc (suc (suc (suc (suc (suc zero))))))))) xs h = refl
-field_named (suc (suc (suc (suc (suc (suc (suc (suc (suc (suc k)))))))))) xs h = absurd (omega arith)
+field_named k xs h = grind (arith, nat_tests)
 
 -- no field before those shown, and none after them
 front_none : (b : Bool) (session : List ℕ) (r : ResultCode) (host realm : List ℕ)

@@ -42,24 +42,7 @@ abbrev known_part : Known → Part
 known_part k = record { code = code k; flags = flags k; vendor = vendor k; payload = zeros (shortest k) }
 
 known_code : (k : Known) → (code k < 2 ^ 32) × (vendor k < 2 ^ 32)
-known_code UserName = (omega arith, omega arith)
-known_code FramedIpAddress = (omega arith, omega arith)
-known_code VendorSpecificApplicationId = (omega arith, omega arith)
-known_code SessionId = (omega arith, omega arith)
-known_code OriginHost = (omega arith, omega arith)
-known_code AuthSessionState = (omega arith, omega arith)
-known_code RouteRecord = (omega arith, omega arith)
-known_code DestinationRealm = (omega arith, omega arith)
-known_code ProxyInfo = (omega arith, omega arith)
-known_code DestinationHost = (omega arith, omega arith)
-known_code OriginRealm = (omega arith, omega arith)
-known_code GloballyUniqueAddress = (omega arith, omega arith)
-known_code AddressRealm = (omega arith, omega arith)
-known_code RequestedInformation = (omega arith, omega arith)
-known_code EventType = (omega arith, omega arith)
-known_code AfApplicationIdentifier = (omega arith, omega arith)
-known_code SubsReqType = (omega arith, omega arith)
-known_code ExpiryTime = (omega arith, omega arith)
+known_code k = (grind arith, grind arith)
 
 known_fits : (k : Known) → Encodable (known_part k)
 known_fits k =

@@ -38,6 +38,7 @@ impl<S: FieldSource> Section for Shown<'_, S> {
 
     fn size(&self) -> usize {
         let mut size = 0;
+        // Tried as `map` and `sum`, and the proof didn't close: the bound rests on what each call of `value` ensures.
         for field in self.set.fields() {
             size += self.avp(field).size();
         }
