@@ -1,8 +1,8 @@
 -- An answer as its AVPs put end to end: sound, and read back.
 use Rattle.std.proofs.Common.{◌≡◌, ℕ, ◌<◌, ◌≤◌, Bool, true, false, cond, eqb, List, [], ◌∷◌, ◌++◌, length, sym, refl, ap, ◌∙◌, append-nil, arith}
 use lib.ListN.{length-replicate}
-use Rattle.std.specs.List.{AllByRecursion}
-use Rattle.std.proofs.ByRecursion.{All-append, All-map, All-weaker}
+use Rattle.std.specs.List.{All}
+use Rattle.std.proofs.lemmas.List.Elements.{All-from_recursion, All-nil, All-cons, All-append, All-map, All-weaker}
 use Rattle.refusal.specs.declared.ResultCode.{ResultCode}
 use Rattle.refusal.specs.declared.ResultCode.TheVariants.{Base, Experimental}
 use Rattle.diameter.specs.Headers.{body}
@@ -10,7 +10,6 @@ use Rattle.diameter.specs.Lists.{avps}
 use Rattle.fieldset.specs.Sets.{members}
 use Rattle.dictionary.specs.Names.{code, vendor, flags, shortest}
 use Rattle.dictionary.specs.declared.known.Known.{Known}
-use Rattle.dictionary.specs.declared.known.Known.TheVariants.{UserName, FramedIpAddress, VendorSpecificApplicationId, SessionId, OriginHost, AuthSessionState, RouteRecord, DestinationRealm, ProxyInfo, DestinationHost, OriginRealm, GloballyUniqueAddress, AddressRealm, RequestedInformation, EventType, AfApplicationIdentifier, SubsReqType, ExpiryTime}
 use Rattle.request.specs.Askings.{Fault, nothing, copied, lacks}
 use Rattle.writer.specs.Bytes.{bytes32, zeros}
 use Rattle.writer.specs.Avps.{avp}
@@ -61,24 +60,7 @@ unfolding answer_bytes
 body_of_answer a = refl
 
 pub shortest_le : (k : Known) → shortest k ≤ 4
-shortest_le UserName = omega arith
-shortest_le FramedIpAddress = omega arith
-shortest_le VendorSpecificApplicationId = omega arith
-shortest_le SessionId = omega arith
-shortest_le OriginHost = omega arith
-shortest_le AuthSessionState = omega arith
-shortest_le RouteRecord = omega arith
-shortest_le DestinationRealm = omega arith
-shortest_le ProxyInfo = omega arith
-shortest_le DestinationHost = omega arith
-shortest_le OriginRealm = omega arith
-shortest_le GloballyUniqueAddress = omega arith
-shortest_le AddressRealm = omega arith
-shortest_le RequestedInformation = omega arith
-shortest_le EventType = omega arith
-shortest_le AfApplicationIdentifier = omega arith
-shortest_le SubsReqType = omega arith
-shortest_le ExpiryTime = omega arith
+shortest_le k = grind arith
 
 -- a limit on what a Failed-AVP holds
 blank_le : (k : Known) → length (blank k) ≤ 2048
@@ -92,19 +74,20 @@ result_fits : (r : ResultCode) → Encodable (result_part r)
 result_fits (Base c) = one_fits 268 (bytes32 c) (omega arith) (omega arith)
 result_fits (Experimental c) = one_fits 297 (avp 266 0x40 0 (bytes32 10415) ++ avp 298 0x40 0 (bytes32 c)) (omega arith) (omega arith)
 
-fault_fits : (f : Fault) → FitsTell f → AllByRecursion Encodable (fault_parts f)
-fault_fits nothing h = tt
+fault_fits : (f : Fault) → FitsTell f → All Encodable (fault_parts f)
+fault_fits nothing h = All-nil Encodable
 fault_fits (copied a) h =
     let t = h.there in
     let s = h.short in
-    (one_fits 279 (copy a) (omega arith) (omega (arith, length_copy a h.there)), tt)
-fault_fits (lacks k) h = (one_fits 279 (blank k) (omega arith) (blank_le k), tt)
+    All-cons Encodable (one 279 (copy a)) [] (one_fits 279 (copy a) (omega arith) (omega (arith, length_copy a h.there))) (All-nil Encodable)
+fault_fits (lacks k) h = All-cons Encodable (one 279 (blank k)) [] (one_fits 279 (blank k) (omega arith) (blank_le k)) (All-nil Encodable)
 
 front_fit : (session : List ℕ) (r : ResultCode) (host realm : List ℕ) → length session ≤ session_limit → length host ≤ name_limit → length realm ≤ name_limit
-    → AllByRecursion Encodable (front_parts session r host realm)
+    → All Encodable (front_parts session r host realm)
 front_fit session r host realm s h l =
     All-append Encodable (session_parts session) (application_part ∷ result_part r ∷ sender_parts host realm)
-    (unless_all Encodable (eqb (length session) 0) (one 263 session) (one_fits 263 session (omega arith) (omega arith))) (
+    (unless_all Encodable (eqb (length session) 0) (one 263 session) (one_fits 263 session (omega arith) (omega arith)))
+    (All-from_recursion Encodable (application_part ∷ result_part r ∷ sender_parts host realm) (
       one_fits 260 application_part.payload (omega arith) (omega arith),
       (
         result_fits r,
@@ -113,14 +96,14 @@ front_fit session r host realm s h l =
           (one_fits 264 host (omega arith) (omega arith), (one_fits 296 realm (omega arith) (omega arith), tt)),
         ),
       ),
-    )
+    ))
 
-fields_fit : (values : ℕ → List ℕ) (n : ℕ) → ((k : ℕ) → k < 10 → length (values k) ≤ field_limit k) → AllByRecursion Encodable (field_parts values (members 10 n))
+fields_fit : (values : ℕ → List ℕ) (n : ℕ) → ((k : ℕ) → k < 10 → length (values k) ≤ field_limit k) → All Encodable (field_parts values (members 10 n))
 fields_fit values n h =
     All-map Encodable (λ k. field_part k (values k)) (members 10 n)
     (All-weaker (λ k. k < 10) (λ k. Encodable (field_part k (values k))) (λ k l. field_fits k (values k) (h k l)) (members 10 n) (members_below 10 n))
 
-pub parts_fit : (a : Answer) → Bounded a → AllByRecursion Encodable (answer_parts a)
+pub parts_fit : (a : Answer) → Bounded a → All Encodable (answer_parts a)
 parts_fit a b =
     All-append Encodable (front_parts a.session a.result a.host a.realm) (field_parts a.values (members 10 a.shown) ++ fault_parts a.fault)
     (front_fit a.session a.result a.host a.realm b.session b.host b.realm)

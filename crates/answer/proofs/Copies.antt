@@ -1,9 +1,9 @@
 -- AVPs of a request, copied.
 use Rattle.std.proofs.Common.{◌≡◌, ℕ, suc, ◌+◌, ◌-◌, ◌*◌, ◌<◌, ◌≤◌, true, cond, ◌&&◌, List, [], ◌∷◌, ◌++◌, length, get_or, take, drop, sym, ap, ◌∙◌, subst, ⊎_elim, append-nil, arith, length-append, length-drop, length-take, take-take}
 use lib.ListN.{length-replicate}
-use Rattle.std.specs.List.{AllByRecursion}
+use Rattle.std.specs.List.{All}
 use Rattle.std.proofs.lemmas.List.{get_or_append_left, get_or-take, take-append-le, drop-append-le, take_at, length-take-le, drop_all, drop-take, take_all}
-use Rattle.std.proofs.ByRecursion.{All-weaker}
+use Rattle.std.proofs.lemmas.List.Elements.{All-nil, All-cons, All-weaker}
 use Rattle.std.proofs.lemmas.Bool.{cases_Bool, and_parts, true≢false}
 use Rattle.std.proofs.lemmas.Bool.Decides.{nat_tests}
 use Rattle.diameter.specs.Bytes.{be32, flagged, padded}
@@ -206,19 +206,19 @@ good_front {n} {most} p rest w l s =
       short = omega (arith, length-append p rest);
     }
 
-all_good : {n : ℕ} {xs : List ℕ} (most : ℕ) → length xs ≤ most → Sound n xs → AllByRecursion (Good n most) (avps xs)
+all_good : {n : ℕ} {xs : List ℕ} (most : ℕ) → length xs ≤ most → Sound n xs → All (Good n most) (avps xs)
 unfolding cut
-all_good most l none = tt
+all_good {n} most l none = All-nil (Good n most)
 all_good most l (plain {n} {p} {rest} w g s) =
-    subst (AllByRecursion (Good n most)) (sym (avps_step p rest w))
-    (good_front p rest w l (plain w g none), all_good most (omega (arith, length-append p rest)) s)
+    subst (All (Good n most)) (sym (avps_step p rest w))
+    (All-cons (Good n most) (front (p ++ rest)) (avps rest) (good_front p rest w l (plain w g none)) (all_good most (omega (arith, length-append p rest)) s))
 all_good most l (nested {n} {p} {rest} w g i s) =
-    subst (AllByRecursion (Good (suc n) most)) (sym (avps_step p rest w))
-    (good_front p rest w l (nested w g i none), all_good most (omega (arith, length-append p rest)) s)
+    subst (All (Good (suc n) most)) (sym (avps_step p rest w))
+    (All-cons (Good (suc n) most) (front (p ++ rest)) (avps rest) (good_front p rest w l (nested w g i none)) (all_good most (omega (arith, length-append p rest)) s))
 
 -- and those directly in its groups
 GoodThrough : ℕ → ℕ → Avp → Type 0
-GoodThrough n most a = Good n most a × (group a.code a.vendor ≡ true → AllByRecursion (Good n most) (avps a.payload))
+GoodThrough n most a = Good n most a × (group a.code a.vendor ≡ true → All (Good n most) (avps a.payload))
 
 payload_within : (p : List ℕ) → length (payload p) ≤ length p
 payload_within p = omega (arith, length-take (size p - header p) (drop (header p) p), length-drop (header p) p)
@@ -226,24 +226,21 @@ payload_within p = omega (arith, length-take (size p - header p) (drop (header p
 lifted : {n most : ℕ} (a : Avp) → Good n most a → Good (suc n) most a
 lifted a g = record { whole = g.whole; alone = deeper g.alone; short = g.short }
 
-all_through : {n : ℕ} {xs : List ℕ} (most : ℕ) → length xs ≤ most → Sound n xs → AllByRecursion (GoodThrough n most) (avps xs)
+all_through : {n : ℕ} {xs : List ℕ} (most : ℕ) → length xs ≤ most → Sound n xs → All (GoodThrough n most) (avps xs)
 unfolding cut GoodThrough
-all_through most l none = tt
+all_through {n} most l none = All-nil (GoodThrough n most)
 all_through most l (plain {n} {p} {rest} w g s) =
-    subst (AllByRecursion (GoodThrough n most)) (sym (avps_step p rest w)) (
-      (good_front p rest w l (plain w g none), λ t. absurd (true≢false (sym t ∙ group_is p rest w ∙ g))),
-      all_through most (omega (arith, length-append p rest)) s,
-    )
+    subst (All (GoodThrough n most)) (sym (avps_step p rest w))
+    (All-cons (GoodThrough n most) (front (p ++ rest)) (avps rest)
+    (good_front p rest w l (plain w g none), λ t. absurd (true≢false (sym t ∙ group_is p rest w ∙ g)))
+    (all_through most (omega (arith, length-append p rest)) s))
 all_through most l (nested {n} {p} {rest} w g i s) =
-    let inner : AllByRecursion (Good (suc n) most) (avps (payload p)) =
+    let inner : All (Good (suc n) most) (avps (payload p)) =
     All-weaker (Good n most) (Good (suc n) most) lifted (avps (payload p)) (all_good most (omega (arith, length-append p rest, payload_within p)) i) in
-    subst (AllByRecursion (GoodThrough (suc n) most)) (sym (avps_step p rest w)) (
-      (
-        good_front p rest w l (nested w g i none),
-        λ _. subst (λ (q : List ℕ). AllByRecursion (Good (suc n) most) (avps q)) (sym (payload_is p rest w)) inner,
-      ),
-      all_through most (omega (arith, length-append p rest)) s,
-    )
+    subst (All (GoodThrough (suc n) most)) (sym (avps_step p rest w))
+    (All-cons (GoodThrough (suc n) most) (front (p ++ rest)) (avps rest)
+    (good_front p rest w l (nested w g i none), λ _. subst (λ (q : List ℕ). All (Good (suc n) most) (avps q)) (sym (payload_is p rest w)) inner)
+    (all_through most (omega (arith, length-append p rest)) s))
 
 copyable : (a : Avp) → Good 3 copy_limit a → Copyable a
 copyable a g = record { whole = g.whole; sound_alone = (decided 3 a.octets).1 g.alone; short = g.short }
@@ -251,7 +248,7 @@ copyable a g = record { whole = g.whole; sound_alone = (decided 3 a.octets).1 g.
 pub requests_copyable : RequestsCopyable
 unfolding GoodThrough
 requests_copyable m l h =
-    All-weaker (GoodThrough 3 copy_limit) (λ a. Copyable a × (group a.code a.vendor ≡ true → AllByRecursion Copyable (avps a.payload)))
+    All-weaker (GoodThrough 3 copy_limit) (λ a. Copyable a × (group a.code a.vendor ≡ true → All Copyable (avps a.payload)))
     (λ a g. (copyable a g.0, λ t. All-weaker (Good 3 copy_limit) Copyable copyable (avps a.payload) (g.1 t)))
     (avps (body m))
     (all_through copy_limit (omega (arith, length-drop 20 m)) ((decided 3 (body m)).0 h))

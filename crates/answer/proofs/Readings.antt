@@ -1,9 +1,9 @@
 -- What is read back from an answer: its header, its Session-Id, the fields that it shows; and that it fits.
-use Rattle.std.proofs.Common.{◌≡◌, ℕ, zero, suc, ◌+◌, ◌<◌, ◌≤◌, Bool, true, false, cond, eqb, List, [], ◌∷◌, ◌++◌, map, length, filter, sym, refl, ap, ◌∙◌, append-nil, arith}
+use Rattle.std.proofs.Common.{◌≡◌, ℕ, ◌+◌, ◌<◌, ◌≤◌, Bool, true, false, cond, eqb, List, [], ◌∷◌, ◌++◌, map, length, filter, sym, refl, ap, ◌∙◌, append-nil, arith}
 use mathlib.Core.List.{map-append}
 use lib.ListN.{length-map}
-use Rattle.std.specs.List.{AllByRecursion}
-use Rattle.std.proofs.lemmas.List.Elements.{filter-append}
+use Rattle.std.specs.List.{All}
+use Rattle.std.proofs.lemmas.List.Elements.{All-head, All-tail, filter-append}
 use Rattle.std.proofs.lemmas.Bool.Decides.{nat_tests}
 use Rattle.refusal.specs.declared.ResultCode.{ResultCode}
 use Rattle.refusal.specs.declared.ResultCode.TheVariants.{Base, Experimental}
@@ -18,7 +18,7 @@ use Rattle.writer.specs.Avps.{avp_size}
 use Rattle.writer.specs.Parts.{Part, part_avp, parts_size}
 use Rattle.writer.proofs.Written.{header_read_back}
 use Rattle.message.specs.Limits.{session_limit, field_limit}
-use Rattle.answer.specs.Limits.{failed_most}
+use Rattle.answer.specs.Limits.{copy_limit}
 use Rattle.message.specs.Fields.{field_part, field_parts, limits_size, is_field}
 use Rattle.answer.specs.Faults.{failed_size}
 use Rattle.answer.specs.Answers.{answer_flags, session_size, result_size, answer_body, answer_bytes}
@@ -38,14 +38,15 @@ result_le : (r : ResultCode) → result_size r ≤ 32
 result_le (Base c) = omega arith
 result_le (Experimental c) = omega arith
 
-failed_le : (f : Fault) → FitsTell f → failed_size f ≤ failed_most
+failed_le : (f : Fault) → FitsTell f → failed_size f ≤ 8 + copy_limit
 failed_le nothing h = omega arith
 failed_le (copied a) h = let t = h.there in let s = h.short in omega arith
 failed_le (lacks k) h = let s = shortest_le k in omega (arith, head_le (flags k))
 
-pub fields_le : (values : ℕ → List ℕ) (ks : List ℕ) → ((k : ℕ) → k < 10 → length (values k) ≤ field_limit k) → AllByRecursion (λ k. k < 10) ks → parts_size (field_parts values ks) ≤ limits_size ks
+pub fields_le : (values : ℕ → List ℕ) (ks : List ℕ) → ((k : ℕ) → k < 10 → length (values k) ≤ field_limit k) → All (λ k. k < 10) ks → parts_size (field_parts values ks) ≤ limits_size ks
 fields_le values [] h l = omega arith
-fields_le values (k ∷ ks) h l = omega (arith, size_within k (length (values k)) (h k l.0), fields_le values ks h l.1)
+fields_le values (k ∷ ks) h l =
+    omega (arith, size_within k (length (values k)) (h k (All-head (λ k. k < 10) k ks l)), fields_le values ks h (All-tail (λ k. k < 10) k ks l))
 
 pub answers_fit : AnswersFit
 answers_fit a b =
@@ -82,17 +83,7 @@ session_repeats a b h =
     ∙ ap (λ (t : Bool). first_such (named 263 0) (map part_avp ((cond t [] (one 263 a.session ∷ []) ++ (application_part ∷ result_part a.result ∷ sender_parts a.host a.realm)) ++ rest))) some
 
 field_named : (k : ℕ) (xs : List ℕ) → k < 10 → is_field (part_avp (field_part k xs)) ≡ true
-field_named zero xs h = refl
-field_named (suc zero) xs h = refl
-field_named (suc (suc zero)) xs h = refl
-field_named (suc (suc (suc zero))) xs h = refl
-field_named (suc (suc (suc (suc zero)))) xs h = refl
-field_named (suc (suc (suc (suc (suc zero))))) xs h = refl
-field_named (suc (suc (suc (suc (suc (suc zero)))))) xs h = refl
-field_named (suc (suc (suc (suc (suc (suc (suc zero))))))) xs h = refl
-field_named (suc (suc (suc (suc (suc (suc (suc (suc zero)))))))) xs h = refl
-field_named (suc (suc (suc (suc (suc (suc (suc (suc (suc zero))))))))) xs h = refl
-field_named (suc (suc (suc (suc (suc (suc (suc (suc (suc (suc k)))))))))) xs h = absurd (omega arith)
+field_named k xs h = grind (arith, nat_tests)
 
 -- no field before those shown, and none after them
 front_none : (b : Bool) (session : List ℕ) (r : ResultCode) (host realm : List ℕ)
@@ -107,11 +98,11 @@ fault_none nothing = refl
 fault_none (copied a) = refl
 fault_none (lacks k) = refl
 
-fields_kept : (values : ℕ → List ℕ) (ks : List ℕ) → AllByRecursion (λ k. k < 10) ks → filter is_field (map part_avp (field_parts values ks)) ≡ map (λ k. part_avp (field_part k (values k))) ks
+fields_kept : (values : ℕ → List ℕ) (ks : List ℕ) → All (λ k. k < 10) ks → filter is_field (map part_avp (field_parts values ks)) ≡ map (λ k. part_avp (field_part k (values k))) ks
 fields_kept values [] h = refl
 fields_kept values (k ∷ ks) h =
-    ap (λ (b : Bool). cond b (part_avp (field_part k (values k)) ∷ filter is_field (map part_avp (field_parts values ks))) (filter is_field (map part_avp (field_parts values ks)))) (field_named k (values k) h.0)
-    ∙ ap (λ (l : List Avp). part_avp (field_part k (values k)) ∷ l) (fields_kept values ks h.1)
+    ap (λ (b : Bool). cond b (part_avp (field_part k (values k)) ∷ filter is_field (map part_avp (field_parts values ks))) (filter is_field (map part_avp (field_parts values ks)))) (field_named k (values k) (All-head (λ k. k < 10) k ks h))
+    ∙ ap (λ (l : List Avp). part_avp (field_part k (values k)) ∷ l) (fields_kept values ks (All-tail (λ k. k < 10) k ks h))
 
 kept_of_two : (ps qs : List Part) → filter is_field (map part_avp (ps ++ qs)) ≡ filter is_field (map part_avp ps) ++ filter is_field (map part_avp qs)
 kept_of_two ps qs = ap (filter is_field) (map-append part_avp ps qs) ∙ filter-append is_field (map part_avp ps) (map part_avp qs)

@@ -1,8 +1,8 @@
 -- Answers are sound: each AVP is no group, or a group with sound data.
 use Rattle.std.proofs.Common.{ℕ, ◌^◌, ◌<◌, eqb, List, [], ◌∷◌, ◌++◌, length, refl, ap, ◌∙◌, arith}
 use lib.ListN.{length-replicate}
-use Rattle.std.specs.List.{AllByRecursion}
-use Rattle.std.proofs.ByRecursion.{All-append, All-map, All-weaker}
+use Rattle.std.specs.List.{All}
+use Rattle.std.proofs.lemmas.List.Elements.{All-from_recursion, All-nil, All-cons, All-append, All-map, All-weaker}
 use Rattle.refusal.specs.declared.ResultCode.{ResultCode}
 use Rattle.refusal.specs.declared.ResultCode.TheVariants.{Base, Experimental}
 use Rattle.diameter.specs.Soundness.{sound}
@@ -17,7 +17,7 @@ use Rattle.writer.specs.Bytes.{bytes32, zeros}
 use Rattle.writer.specs.Parts.{Part, parts_bytes, Encodable, SoundPart, plain, nested}
 use Rattle.writer.proofs.Written.{parts_sound, part_sound}
 use Rattle.message.specs.Fields.{field_part, field_parts}
-use Rattle.answer.specs.Faults.{copy}
+use Rattle.answer.specs.Faults.{copy, blank}
 use Rattle.answer.specs.Answers.{Answer}
 use Rattle.answer.specs.Copies.{Tellable}
 use Rattle.message.specs.Parts.{one, application_part, sender_parts}
@@ -31,34 +31,18 @@ result_sound : (r : ResultCode) → SoundPart 4 (result_part r)
 result_sound (Base c) = plain refl
 result_sound (Experimental c) =
     nested refl
-    (parts_sound 3 (one 266 (bytes32 10415) ∷ one 298 (bytes32 c) ∷ []) (
+    (parts_sound 3 (one 266 (bytes32 10415) ∷ one 298 (bytes32 c) ∷ [])
+    (All-from_recursion (λ p. Encodable p × SoundPart 3 p) (one 266 (bytes32 10415) ∷ one 298 (bytes32 c) ∷ []) (
       (one_fits 266 (bytes32 10415) (omega arith) (omega arith), plain refl),
       ((one_fits 298 (bytes32 c) (omega arith) (omega arith), plain refl), tt),
-    ))
+    )))
 
 -- a missing AVP, as it is told
 abbrev known_part : Known → Part
 known_part k = record { code = code k; flags = flags k; vendor = vendor k; payload = zeros (shortest k) }
 
 known_code : (k : Known) → (code k < 2 ^ 32) × (vendor k < 2 ^ 32)
-known_code UserName = (omega arith, omega arith)
-known_code FramedIpAddress = (omega arith, omega arith)
-known_code VendorSpecificApplicationId = (omega arith, omega arith)
-known_code SessionId = (omega arith, omega arith)
-known_code OriginHost = (omega arith, omega arith)
-known_code AuthSessionState = (omega arith, omega arith)
-known_code RouteRecord = (omega arith, omega arith)
-known_code DestinationRealm = (omega arith, omega arith)
-known_code ProxyInfo = (omega arith, omega arith)
-known_code DestinationHost = (omega arith, omega arith)
-known_code OriginRealm = (omega arith, omega arith)
-known_code GloballyUniqueAddress = (omega arith, omega arith)
-known_code AddressRealm = (omega arith, omega arith)
-known_code RequestedInformation = (omega arith, omega arith)
-known_code EventType = (omega arith, omega arith)
-known_code AfApplicationIdentifier = (omega arith, omega arith)
-known_code SubsReqType = (omega arith, omega arith)
-known_code ExpiryTime = (omega arith, omega arith)
+known_code k = (grind arith, grind arith)
 
 known_fits : (k : Known) → Encodable (known_part k)
 known_fits k =
@@ -87,23 +71,24 @@ known_sound AfApplicationIdentifier = plain refl
 known_sound SubsReqType = plain refl
 known_sound ExpiryTime = plain refl
 
-fault_sound : (f : Fault) → Tellable f → AllByRecursion (SoundPart 4) (fault_parts f)
-fault_sound nothing t = tt
-fault_sound (copied a) t = (nested refl ((decided 3 (copy a)).0 (copy_sound a t)), tt)
-fault_sound (lacks k) t = (nested refl (part_sound {n = 3} {p = known_part k} (known_fits k) (known_sound k)), tt)
+fault_sound : (f : Fault) → Tellable f → All (SoundPart 4) (fault_parts f)
+fault_sound nothing t = All-nil (SoundPart 4)
+fault_sound (copied a) t = All-cons (SoundPart 4) (one 279 (copy a)) [] (nested refl ((decided 3 (copy a)).0 (copy_sound a t))) (All-nil (SoundPart 4))
+fault_sound (lacks k) t =
+    All-cons (SoundPart 4) (one 279 (blank k)) [] (nested refl (part_sound {n = 3} {p = known_part k} (known_fits k) (known_sound k))) (All-nil (SoundPart 4))
 
-front_sound : (session : List ℕ) (r : ResultCode) (host realm : List ℕ) → AllByRecursion (SoundPart 4) (front_parts session r host realm)
+front_sound : (session : List ℕ) (r : ResultCode) (host realm : List ℕ) → All (SoundPart 4) (front_parts session r host realm)
 front_sound session r host realm =
     All-append (SoundPart 4) (session_parts session) (application_part ∷ result_part r ∷ sender_parts host realm)
     (unless_all (SoundPart 4) (eqb (length session) 0) (one 263 session) (plain refl))
-    (nested refl application_sound, (result_sound r, (plain refl, (plain refl, (plain refl, tt)))))
+    (All-from_recursion (SoundPart 4) (application_part ∷ result_part r ∷ sender_parts host realm) (nested refl application_sound, (result_sound r, (plain refl, (plain refl, (plain refl, tt))))))
 
-fields_sound : (values : ℕ → List ℕ) (n : ℕ) → ValuesSound values → AllByRecursion (SoundPart 4) (field_parts values (members 10 n))
+fields_sound : (values : ℕ → List ℕ) (n : ℕ) → ValuesSound values → All (SoundPart 4) (field_parts values (members 10 n))
 fields_sound values n h =
     All-map (SoundPart 4) (λ k. field_part k (values k)) (members 10 n)
     (All-weaker (λ k. k < 10) (λ k. SoundPart 4 (field_part k (values k))) (λ k l. field_sound k (values k) l (h k)) (members 10 n) (members_below 10 n))
 
-all_sound : (a : Answer) → ValuesSound a.values → Tellable a.fault → AllByRecursion (SoundPart 4) (answer_parts a)
+all_sound : (a : Answer) → ValuesSound a.values → Tellable a.fault → All (SoundPart 4) (answer_parts a)
 all_sound a h t =
     All-append (SoundPart 4) (front_parts a.session a.result a.host a.realm) (field_parts a.values (members 10 a.shown) ++ fault_parts a.fault)
     (front_sound a.session a.result a.host a.realm)

@@ -2,23 +2,13 @@
 --     answer_of values d   the answer that the draft d is to be, where `values` says what a source holds
 --     closed_of values k   the answer that the closed one is
 use Rattle.std.specs.Prelude.{ℕ, List}
-use Rattle.request.specs.Askings.{fault_of}
 use Rattle.answer.specs.Answers.{Answer}
+use Rattle.answer.specs.Contents.{said_by}
 use Rattle.answer.specs.declared.draft.Draft.{Draft}
 use Rattle.answer.specs.declared.draft.Closed.{Closed}
 
 abbrev pub answer_of : {S : Type 0} → (S → ℕ → List ℕ) → Draft S → Answer
-answer_of values d =
-    record {
-      request = d.header;
-      session = d.session.now;
-      result = d.result;
-      host = d.origin.host.now;
-      realm = d.origin.realm.now;
-      shown = d.shown.bits;
-      values = values d.source.now;
-      fault = fault_of d.carried;
-    }
+answer_of values d = said_by values d.content
 
-abbrev pub closed_of : {S : Type 0} → (S → ℕ → List ℕ) → Closed S → Answer
-closed_of values k = answer_of values k.draft
+abbrev pub closed_of : {S : Type 0} → {g : _} → (S → ℕ → List ℕ) → Closed S g → Answer
+closed_of values k = said_by values k.content

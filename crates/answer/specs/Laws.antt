@@ -3,7 +3,7 @@
 --     ValuesSound vs     the values of the fields that are groups, 1, 3, 7 and 8, are sound where a value stands
 --     fields_of m         the AVPs of the message m that show fields, in the order in which they stand
 use Rattle.std.specs.Prelude.{◌≡◌, ℕ, ◌^◌, ◌<◌, ◌≤◌, true, List, [], ◌∷◌, map, length, Some, filter, count_ones}
-use Rattle.std.specs.List.{AllByRecursion}
+use Rattle.std.specs.List.{All}
 use Rattle.refusal.specs.declared.ResultCode.TheVariants.{Base, Experimental}
 use Rattle.diameter.specs.Avps.{group}
 use Rattle.diameter.specs.Headers.{header_of, body}
@@ -87,7 +87,7 @@ FieldsCounted = (a : Answer) → Bounded a → a.shown < 2 ^ 10 → count_such i
 abbrev pub RequestsCopyable : Type 0
 RequestsCopyable =
     (m : List ℕ) → length m ≤ request_limit → sound 3 (body m) ≡ true
-    → AllByRecursion (λ a. Copyable a × (group a.code a.vendor ≡ true → AllByRecursion Copyable (avps a.payload))) (avps (body m))
+    → All (λ a. Copyable a × (group a.code a.vendor ≡ true → All Copyable (avps a.payload))) (avps (body m))
 
 -- what may be told has the lengths that a draft asks for
 abbrev pub TellableFits : Type 0

@@ -1,80 +1,140 @@
 //! The Failed-AVP of an answer.
 ghost use Rattle.std.specs.Prelude.{◌≡◌, ◌+◌, ◌≤◌, length};
-ghost use Rattle.dictionary.specs.Names.{flags};
+ghost use Rattle.dictionary.specs.Names.{shortest};
 ghost use Rattle.diameter.specs.Views.{avp_of};
 ghost use Rattle.request.specs.Askings.{fault_of, copied, lacks};
-ghost use Rattle.writer.specs.Avps.{avp_size, avp};
 ghost use Rattle.writer.specs.Bytes.{zeros};
-ghost use Rattle.writer.specs.Stores.{Appends, room};
-ghost use Rattle.answer.specs.Limits.{copy_limit, failed_most};
-ghost use Rattle.answer.specs.Faults.{kept, failed_avp, failed_size, kept_of, held_of};
+ghost use Rattle.answer.specs.Limits.{copy_limit};
+ghost use Rattle.answer.specs.Faults.{kept, copy, failed_avp, kept_of, held_of};
 
 use diameter::avp::AvpView;
 use dictionary::known::Known;
+use message::section::{Avp, Section};
 use request::asking::FaultyAvp;
-use writer::avp::{avp_size, head_size, padding};
+use writer::avp::{AvpHead, head_size, padding};
 use writer::writer::Writer;
 
+const FAILED_AVP: AvpHead = AvpHead {
+    code: 279,
+    flags: 0x40,
+    vendor: 0,
+};
+
 /// A copy of an AVP: its header and data as they are, its padding zeros.
-fn put_copied(w: &mut Writer<'_>, avp: AvpView<'_>)
-    requires { (room (failed_size (copied (avp_of avp))) w.old) × ((kept (avp_of avp) ≤ length avp.octets.now) × (length avp.octets.now ≤ copy_limit)) }
-    ensures wrote { Appends w.old (failed_avp (copied (avp_of avp.entry))) w.new }
-    ensures ends { w.new.end ≡ w.old.end + failed_size (copied (avp_of avp.entry)) }
-{
-    let size = head_size(avp.flags) + avp.payload.len();
-    let padding = padding(size);
-    w.avp_header(279, 0x40, 0, size + padding);
-    w.bytes(&avp.octets[0..size]);
-    w.zeros(padding);
+#[derive(Clone, Copy)]
+struct Copied<'m> {
+    avp: AvpView<'m>,
+    ghost there: { kept (avp_of avp) ≤ length avp.octets.now },
+    ghost short: { length avp.octets.now ≤ copy_limit },
 }
 
-/// An AVP of `size` zeros, in a Failed-AVP.
-fn put_blank(w: &mut Writer<'_>, code: u32, flags: u8, vendor: u32, size: usize)
-    requires { (room (8 + avp_size flags size) w.old) × (size ≤ 4) }
-    ensures wrote { Appends w.old (avp 279 0x40 0 (avp code flags vendor (zeros size))) w.new }
-    ensures ends { w.new.end ≡ w.old.end + (8 + avp_size flags size) }
-{
-    w.avp_header(279, 0x40, 0, avp_size(flags, size));
-    w.avp_header(code, flags, vendor, size);
-    w.zeros(size);
-    w.zeros(padding(size));
-}
-
-/// What stands for a missing AVP: its header, and zeros of the shortest length.
-fn put_lacking(w: &mut Writer<'_>, known: Known)
-    requires { room (failed_size (lacks known)) w.old }
-    ensures wrote { Appends w.old (failed_avp (lacks known)) w.new }
-    ensures ends { w.new.end ≡ w.old.end + failed_size (lacks known) }
-{
-    put_blank(
-        w,
-        known.code(),
-        known.flags(),
-        known.vendor(),
-        known.shortest(),
-    );
-}
-
-pub(crate) fn put_failed(w: &mut Writer<'_>, carried: Option<FaultyAvp<'_>>)
-    requires { (room (failed_size (fault_of carried)) w.old) × ((kept_of (fault_of carried) ≤ held_of (fault_of carried)) × (held_of (fault_of carried) ≤ copy_limit)) }
-    ensures wrote { Appends w.old (failed_avp (fault_of carried.entry)) w.new }
-    ensures ends { w.new.end ≡ w.old.end + failed_size (fault_of carried.entry) }
-{
-    match carried {
-        None => {}
-        Some(FaultyAvp::Present(avp)) => put_copied(w, avp),
-        Some(FaultyAvp::Missing(known)) => put_lacking(w, known),
+impl Copied<'_> {
+    /// How many bytes are copied: the header and the data.
+    fn kept(self) -> usize
+        ensures { result ≡ kept (avp_of self.entry.avp) }
+    {
+        head_size(self.avp.flags) + self.avp.payload.len()
     }
 }
 
-pub(crate) fn failed_size(carried: Option<FaultyAvp<'_>>) -> usize
-    requires { (kept_of (fault_of carried) ≤ held_of (fault_of carried)) × (held_of (fault_of carried) ≤ copy_limit) }
-    ensures is { result ≡ failed_size (fault_of carried.entry) }
-    ensures most { result ≤ failed_most }
+impl Section for Copied<'_> {
+    ghost bytes = { λ c. copy (avp_of c.avp) };
+
+    ghost most = { copy_limit };
+
+    fn size(&self) -> usize {
+        let kept = self.kept();
+        kept + padding(kept)
+    }
+
+    fn put(&self, w: &mut Writer<'_>) {
+        let kept = self.kept();
+        w.bytes(&self.avp.octets[0..kept]);
+        w.zeros(padding(kept));
+    }
+}
+
+/// Zeros, as many as an AVP of the dictionary has to have at least.
+#[derive(Clone, Copy)]
+struct Blank(Known);
+
+impl Section for Blank {
+    ghost bytes = { λ b. zeros (shortest b.0) };
+
+    ghost most = { 4 };
+
+    fn size(&self) -> usize {
+        self.0.shortest()
+    }
+
+    fn put(&self, w: &mut Writer<'_>) {
+        w.zeros(self.0.shortest());
+    }
+}
+
+/// The AVP that a request is refused for, where one is, in a Failed-AVP.
+#[derive(Clone, Copy)]
+pub(crate) struct Failed<'m> {
+    faulty: Option<FaultyAvp<'m>>,
+    ghost there: { kept_of (fault_of faulty) ≤ held_of (fault_of faulty) },
+    ghost short: { held_of (fault_of faulty) ≤ copy_limit },
+}
+
+impl<'m> Failed<'m> {
+    pub(crate) fn new(faulty: Option<FaultyAvp<'m>>) -> Failed<'m>
+        requires { (kept_of (fault_of faulty) ≤ held_of (fault_of faulty)) × (held_of (fault_of faulty) ≤ copy_limit) }
+        ensures { fault_of result.faulty ≡ fault_of faulty.entry }
+    {
+        Failed { faulty }
+    }
+}
+
+type CopiedAvp<'m> = Avp<AvpHead, Copied<'m>>;
+
+fn copied_avp<'m>(avp: AvpView<'m>) -> CopiedAvp<'m>
+    requires { (kept (avp_of avp) ≤ length avp.octets.now) × (length avp.octets.now ≤ copy_limit) }
+    ensures { ⟦<CopiedAvp<'m> as Section>⟧.bytes result ≡ failed_avp (copied (avp_of avp.entry)) }
 {
-    match carried {
-        None => 0,
-        Some(FaultyAvp::Present(avp)) => 8 + avp_size(avp.flags, avp.payload.len()),
-        Some(FaultyAvp::Missing(known)) => 8 + avp_size(known.flags(), known.shortest()),
+    Avp {
+        kind: FAILED_AVP,
+        data: Copied { avp },
+    }
+}
+
+type MissingAvp = Avp<AvpHead, Avp<Known, Blank>>;
+
+/// What stands for a missing AVP: its header, and zeros of the shortest length.
+fn missing_avp(known: Known) -> MissingAvp
+    ensures { ⟦<MissingAvp as Section>⟧.bytes result ≡ failed_avp (lacks known) }
+{
+    let blank = Avp {
+        kind: known,
+        data: Blank(known),
+    };
+    Avp {
+        kind: FAILED_AVP,
+        data: blank,
+    }
+}
+
+impl Section for Failed<'_> {
+    ghost bytes = { λ f. failed_avp (fault_of f.faulty) };
+
+    ghost most = { 15 + copy_limit };
+
+    fn size(&self) -> usize {
+        match self.faulty {
+            None => 0,
+            Some(FaultyAvp::Present(avp)) => copied_avp(avp).size(),
+            Some(FaultyAvp::Missing(known)) => missing_avp(known).size(),
+        }
+    }
+
+    fn put(&self, w: &mut Writer<'_>) {
+        match self.faulty {
+            None => {}
+            Some(FaultyAvp::Present(avp)) => copied_avp(avp).put(w),
+            Some(FaultyAvp::Missing(known)) => missing_avp(known).put(w),
+        }
     }
 }

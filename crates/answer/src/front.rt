@@ -1,109 +1,151 @@
-//! The AVPs that every answer begins with.
+//! The sections that every answer begins with.
 ghost use Rattle.std.specs.Prelude.{◌≡◌, ◌+◌, ◌≤◌, length};
-ghost use Rattle.writer.specs.Stores.{Appends, room};
 ghost use Rattle.message.specs.Limits.{session_limit};
-ghost use Rattle.answer.specs.Limits.{front_most};
-ghost use Rattle.answer.specs.Answers.{is_protocol_error, answer_flags, session_avp, session_size, result_avp, result_size, answer_front, front_size};
+ghost use Rattle.answer.specs.Answers.{is_protocol_error, answer_flags, session_avp, result_avp};
 
 use dictionary::known::Known;
-use message::Origin;
-use message::known::put_known;
-use message::sender::{put_application, put_sender, sender_size};
+use message::section::{Avp, Octets, Section};
 use refusal::ResultCode;
-use writer::avp::avp_size;
+use writer::avp::AvpHead;
 use writer::writer::Writer;
 
+/// The vendor 3GPP.
+const THREE_GPP: u32 = 10415;
+
+const VENDOR_ID: AvpHead = AvpHead {
+    code: 266,
+    flags: 0x40,
+    vendor: 0,
+};
+
+const RESULT_CODE: AvpHead = AvpHead {
+    code: 268,
+    flags: 0x40,
+    vendor: 0,
+};
+
+const EXPERIMENTAL_RESULT: AvpHead = AvpHead {
+    code: 297,
+    flags: 0x40,
+    vendor: 0,
+};
+
+const EXPERIMENTAL_RESULT_CODE: AvpHead = AvpHead {
+    code: 298,
+    flags: 0x40,
+    vendor: 0,
+};
+
 /// Whether the header of the answer is marked as an error of the protocol.
-fn is_protocol_error(res: ResultCode) -> bool
-    ensures { result ≡ is_protocol_error res }
+fn is_protocol_error(code: ResultCode) -> bool
+    ensures { result ≡ is_protocol_error code }
 {
-    match res {
-        ResultCode::Base(code) => code == 3001 || code == 3007,
-        ResultCode::Experimental(_) => false,
-    }
+    matches!(code, ResultCode::Base(3001 | 3007))
 }
 
 /// The flags of the answer to a request with these flags.
-pub(crate) fn answer_flags(flags: u8, res: ResultCode) -> u8
-    ensures { result ≡ answer_flags flags res }
+pub(crate) fn answer_flags(flags: u8, code: ResultCode) -> u8
+    ensures { result ≡ answer_flags flags code }
 {
-    if is_protocol_error(res) {
+    if is_protocol_error(code) {
         (flags & 0x40) + 0x20
     } else {
         flags & 0x40
     }
 }
 
-/// The Session-Id, where there is one.
-fn put_session(w: &mut Writer<'_>, session: &[u8])
-    requires { (room (session_size session.now) w.old) × (length session.now ≤ session_limit) }
-    ensures wrote { Appends w.old (session_avp session.now) w.new }
-    ensures ends { w.new.end ≡ w.old.end + session_size session.now }
-{
-    if !session.is_empty() {
-        put_known(w, Known::SessionId, session);
+/// The Session-Id of the request, none where it is empty.
+#[derive(Clone, Copy)]
+pub(crate) struct SessionId<'m> {
+    octets: &'m [u8],
+    ghost fits: { length octets.now ≤ session_limit },
+}
+
+impl<'m> SessionId<'m> {
+    pub(crate) fn new(octets: &'m [u8]) -> SessionId<'m>
+        requires { length octets.now ≤ session_limit }
+        ensures { result.octets.now ≡ octets.now }
+    {
+        SessionId { octets }
+    }
+
+    fn avp(self) -> Option<Avp<Known, Octets<'m>>>
+        ensures { ⟦<Option<Avp<Known, Octets<'m>>> as Section>⟧.bytes result ≡ session_avp self.entry.octets.now }
+    {
+        if self.octets.is_empty() {
+            return None;
+        }
+        Some(Avp {
+            kind: Known::SessionId,
+            data: Octets::new(self.octets),
+        })
     }
 }
 
-fn session_size(session: &[u8]) -> usize
-    requires { length session.now ≤ session_limit }
-    ensures is { result ≡ session_size session.now }
-    ensures most { result ≤ 136 }
-{
-    if session.is_empty() {
-        0
-    } else {
-        avp_size(0x40, session.len())
+impl Section for SessionId<'_> {
+    ghost bytes = { λ s. session_avp s.octets.now };
+
+    ghost most = { 15 + session_limit };
+
+    fn size(&self) -> usize {
+        self.avp().size()
+    }
+
+    fn put(&self, w: &mut Writer<'_>) {
+        self.avp().put(w);
     }
 }
+
+/// The result: a Result-Code, or an Experimental-Result of 3GPP.
+#[derive(Clone, Copy)]
+pub(crate) struct ResultAvp(pub(crate) ResultCode);
+
+/// A Result-Code.
+fn base(code: u32) -> Avp<AvpHead, u32>
+    ensures { ⟦<Avp<AvpHead, u32> as Section>⟧.bytes result ≡ result_avp (ResultCode.Base code) }
+{
+    Avp {
+        kind: RESULT_CODE,
+        data: code,
+    }
+}
+
+type ExperimentalResult = Avp<AvpHead, (Avp<AvpHead, u32>, Avp<AvpHead, u32>)>;
 
 /// An Experimental-Result of 3GPP.
-fn put_experimental(w: &mut Writer<'_>, code: u32)
-    requires { room 32 w.old }
-    ensures wrote { Appends w.old (result_avp (ResultCode.Experimental code)) w.new }
-    ensures ends { w.new.end ≡ w.old.end + 32 }
+fn experimental(code: u32) -> ExperimentalResult
+    ensures { ⟦<ExperimentalResult as Section>⟧.bytes result ≡ result_avp (ResultCode.Experimental code) }
 {
-    w.avp_header(297, 0x40, 0, 24);
-    w.avp_u32(266, 0x40, 0, 10415);
-    w.avp_u32(298, 0x40, 0, code);
-}
-
-fn put_result(w: &mut Writer<'_>, res: ResultCode)
-    requires { room (result_size res) w.old }
-    ensures wrote { Appends w.old (result_avp res) w.new }
-    ensures ends { w.new.end ≡ w.old.end + result_size res }
-{
-    match res {
-        ResultCode::Base(code) => w.avp_u32(268, 0x40, 0, code),
-        ResultCode::Experimental(code) => put_experimental(w, code),
+    let vendor = Avp {
+        kind: VENDOR_ID,
+        data: THREE_GPP,
+    };
+    let number = Avp {
+        kind: EXPERIMENTAL_RESULT_CODE,
+        data: code,
+    };
+    Avp {
+        kind: EXPERIMENTAL_RESULT,
+        data: (vendor, number),
     }
 }
 
-fn result_size(res: ResultCode) -> usize
-    ensures is { result ≡ result_size res }
-    ensures most { result ≤ 32 }
-{
-    match res {
-        ResultCode::Base(_) => 12,
-        ResultCode::Experimental(_) => 32,
+impl Section for ResultAvp {
+    ghost bytes = { λ r. result_avp r.0 };
+
+    ghost most = { 32 };
+
+    fn size(&self) -> usize {
+        match self.0 {
+            ResultCode::Base(code) => base(code).size(),
+            ResultCode::Experimental(code) => experimental(code).size(),
+        }
     }
-}
 
-pub(crate) fn put_front(w: &mut Writer<'_>, session: &[u8], res: ResultCode, origin: Origin<'_>)
-    requires { (room (front_size session.now res origin.host.now origin.realm.now) w.old) × (length session.now ≤ session_limit) }
-    ensures wrote { Appends w.old (answer_front session.now res origin.entry.host.now origin.entry.realm.now) w.new }
-    ensures ends { w.new.end ≡ w.old.end + front_size session.now res origin.entry.host.now origin.entry.realm.now }
-{
-    put_session(w, session);
-    put_application(w);
-    put_result(w, res);
-    put_sender(w, origin);
-}
-
-pub(crate) fn front_size(session: &[u8], res: ResultCode, origin: Origin<'_>) -> usize
-    requires { length session.now ≤ session_limit }
-    ensures is { result ≡ front_size session.now res origin.entry.host.now origin.entry.realm.now }
-    ensures most { result ≤ front_most }
-{
-    session_size(session) + 32 + result_size(res) + sender_size(origin)
+    fn put(&self, w: &mut Writer<'_>) {
+        match self.0 {
+            ResultCode::Base(code) => base(code).put(w),
+            ResultCode::Experimental(code) => experimental(code).put(w),
+        }
+    }
 }

@@ -7,36 +7,43 @@ pub fn results_worked()
 {}
 
 /// An answer fits the buffer.
+#[tactic(auto, using(crate::proofs::Readings::answers_fit))]
 pub fn answers_fit()
     ensures { AnswersFit }
 {}
 
 /// The AVPs of an answer are sound at four levels, if the values shown and the AVP copied are sound at three.
+#[tactic(auto, using(crate::proofs::Sounds::answers_sound))]
 pub fn answers_sound()
     ensures { AnswersSound }
 {}
 
 /// The AVPs of an answer are read back as they were written.
+#[tactic(auto, using(crate::proofs::Bodies::answers_read_back))]
 pub fn answers_read_back()
     ensures { AnswersReadBack }
 {}
 
 /// The header of an answer repeats the request's command, application and identifiers.
+#[tactic(auto, using(crate::proofs::Readings::header_repeats))]
 pub fn header_repeats()
     ensures { HeaderRepeats }
 {}
 
 /// An answer repeats the request's Session-Id.
+#[tactic(auto, using(crate::proofs::Readings::session_repeats))]
 pub fn session_repeats()
     ensures { SessionRepeats }
 {}
 
 /// The fields that an answer shows are those of the set, in ascending order, each with its value.
+#[tactic(auto, using(crate::proofs::Readings::fields_shown))]
 pub fn fields_shown()
     ensures { FieldsShown }
 {}
 
 /// They are as many as the set has members.
+#[tactic(auto, using(crate::proofs::Readings::fields_counted))]
 pub fn fields_counted()
     ensures { FieldsCounted }
 {}
@@ -47,6 +54,7 @@ pub fn requests_copyable()
 {}
 
 /// What may be told of a request's AVPs has the lengths that a draft asks for.
+#[tactic(auto, using(crate::proofs::Copies::tellable_fits))]
 pub fn tellable_fits()
     ensures { TellableFits }
 {}

@@ -2,6 +2,7 @@
 #![tactic(auto)]
 
 mod answer;
+mod content;
 mod draft;
 mod failed;
 mod fields;

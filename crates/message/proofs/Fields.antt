@@ -1,8 +1,8 @@
 -- The AVPs of the fields of a set: how long they are.
-use Rattle.std.proofs.Common.{◌≡◌, ℕ, zero, suc, ◌+◌, ◌≤◌, Bool, true, false, cond, List, [], ◌∷◌, ◌++◌, length, ap, arith}
+use Rattle.std.proofs.Common.{◌≡◌, ℕ, zero, suc, ◌+◌, ◌≤◌, Bool, true, false, cond, List, [], ◌∷◌, ◌++◌, ap, arith}
 use Rattle.diameter.specs.Bytes.{padded}
 use Rattle.writer.specs.Avps.{head_size}
-use Rattle.writer.specs.Parts.{part_bytes, parts_bytes, parts_size}
+use Rattle.writer.specs.Parts.{part_bytes, parts_bytes}
 use Rattle.fieldset.specs.Sets.{has, members}
 use Rattle.message.specs.Limits.{field_limit}
 use Rattle.message.specs.Fields.{field_flags, field_part, field_size, field_parts, limits_size, fields_most}
@@ -28,10 +28,6 @@ limits_members (suc d) n =
 
 pub limits_most : (n : ℕ) → limits_size (members 10 n) ≤ fields_most
 limits_most n = limits_members 10 n
-
--- one field more
-pub size_more : (values : ℕ → List ℕ) (ms ks : List ℕ) (k : ℕ) → ms ≡ k ∷ ks → parts_size (field_parts values ms) ≡ field_size k (length (values k)) + parts_size (field_parts values ks)
-size_more values ms ks k e = ap (λ l. parts_size (field_parts values l)) e
 
 pub bytes_more : (values : ℕ → List ℕ) (ms ks : List ℕ) (k : ℕ) → ms ≡ k ∷ ks → parts_bytes (field_parts values ms) ≡ part_bytes (field_part k (values k)) ++ parts_bytes (field_parts values ks)
 bytes_more values ms ks k e = ap (λ l. parts_bytes (field_parts values l)) e

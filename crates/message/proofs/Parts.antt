@@ -1,7 +1,10 @@
 -- AVPs as values: their bytes, that they fit, and that they are sound.
-use Rattle.std.proofs.Common.{◌≡◌, ℕ, zero, suc, ◌^◌, ◌<◌, ◌≤◌, Bool, true, false, cond, eqb, List, [], ◌∷◌, ◌++◌, length, sym, refl, ap, ◌∙◌, append_assoc, append-nil, arith, length-append}
-use Rattle.std.specs.List.{AllByRecursion}
-use Rattle.std.proofs.ByRecursion.{All-append, All-weaker}
+use Rattle.std.proofs.Common.{◌≡◌, ℕ, zero, suc, ◌^◌, ◌<◌, ◌≤◌, Bool, true, false, cond, eqb, List, [], ◌∷◌, ◌++◌, length, sym, refl, ap, ◌∙◌, ⊎_elim, append_assoc, append-nil, arith, length-append}
+use Rattle.std.specs.List.{All}
+use Rattle.std.proofs.lemmas.List.Elements.{All-nil, All-cons, All-append, All-weaker}
+use Rattle.std.proofs.lemmas.Bool.{cases_Bool}
+use Rattle.std.proofs.lemmas.Bool.Decides.{nat_tests}
+use Rattle.diameter.specs.Avps.{group}
 use Rattle.diameter.specs.Bytes.{flagged}
 use Rattle.diameter.specs.Soundness.{sound, walk}
 use Rattle.diameter.specs.Laws.{Sound}
@@ -9,7 +12,7 @@ use Rattle.diameter.proofs.Decided.{decided}
 use Rattle.fieldset.specs.Sets.{has, members}
 use Rattle.writer.specs.Bytes.{bytes32}
 use Rattle.writer.specs.Avps.{head_size, avp}
-use Rattle.writer.specs.Parts.{Part, part_bytes, parts_bytes, Encodable, SoundPart, plain, nested}
+use Rattle.writer.specs.Parts.{Part, part_bytes, parts_bytes, part_vendor, Encodable, SoundPart, plain, nested}
 use Rattle.writer.proofs.Avps.{length_avp}
 use Rattle.message.specs.Limits.{field_limit}
 use Rattle.message.specs.Fields.{field_code, field_vendor, field_flags, field_part}
@@ -35,14 +38,7 @@ pub one_fits : (c : ℕ) (xs : List ℕ) → c < 2 ^ 32 → length xs ≤ 2048 �
 one_fits c xs h l = record { code_fits = h; vendor_fits = omega arith; size_fits = omega arith }
 
 pub field_code_le : (k : ℕ) → field_code k ≤ 361
-field_code_le k =
-    cond_le (eqb k 0) 1 _ 361 (omega arith)
-    (cond_le (eqb k 1) 350 _ 361 (omega arith)
-    (cond_le (eqb k 2) 351 _ 361 (omega arith)
-    (cond_le (eqb k 3) 306 _ 361 (omega arith)
-    (cond_le (eqb k 4) 352 _ 361 (omega arith)
-    (cond_le (eqb k 5) 302 _ 361 (omega arith)
-    (cond_le (eqb k 6) 313 _ 361 (omega arith) (cond_le (eqb k 7) 303 _ 361 (omega arith) (cond_le (eqb k 8) 304 361 361 (omega arith) (omega arith)))))))))
+field_code_le k = grind (arith, nat_tests)
 
 pub field_fits : (k : ℕ) (xs : List ℕ) → length xs ≤ field_limit k → Encodable (field_part k xs)
 field_fits k xs h =
@@ -53,21 +49,21 @@ field_fits k xs h =
     record { code_fits = omega arith; vendor_fits = omega arith; size_fits = omega arith }
 
 -- the members of a set are below its width
-one_below : (b : Bool) (d : ℕ) → AllByRecursion (λ k. k < suc d) (cond b (d ∷ []) [])
-one_below true d = (omega arith, tt)
-one_below false d = tt
+one_below : (b : Bool) (d : ℕ) → All (λ k. k < suc d) (cond b (d ∷ []) [])
+one_below true d = All-cons (λ k. k < suc d) d [] (omega arith) (All-nil (λ k. k < suc d))
+one_below false d = All-nil (λ k. k < suc d)
 
-pub members_below : (d n : ℕ) → AllByRecursion (λ k. k < d) (members d n)
+pub members_below : (d n : ℕ) → All (λ k. k < d) (members d n)
 unfolding members
-members_below zero n = tt
+members_below zero n = All-nil (λ k. k < zero)
 members_below (suc d) n =
     All-append (λ k. k < suc d) (members d n) (cond (has n d) (d ∷ []) [])
     (All-weaker (λ k. k < d) (λ k. k < suc d) (λ k h. omega arith) (members d n) (members_below d n))
     (one_below (has n d) d)
 
-pub unless_all : (P : Part → Type 0) (b : Bool) (p : Part) → P p → AllByRecursion P (cond b [] (p ∷ []))
-unless_all P true p h = tt
-unless_all P false p h = (h, tt)
+pub unless_all : (P : Part → Type 0) (b : Bool) (p : Part) → P p → All P (cond b [] (p ∷ []))
+unless_all P true p h = All-nil P
+unless_all P false p h = All-cons P p [] h (All-nil P)
 
 pub length_sender : (host realm : List ℕ) → length (sender_avps host realm) ≡ sender_size host realm
 length_sender host realm =
@@ -75,36 +71,24 @@ length_sender host realm =
     let r = length_avp 296 0x40 0 realm in
     omega (arith, length-append (avp 264 0x40 0 host) (avp 296 0x40 0 realm))
 
-pub all_both : {X : Type 0} (P Q : X → Type 0) (xs : List X) → AllByRecursion P xs → AllByRecursion Q xs → AllByRecursion (λ x. P x × Q x) xs
-all_both P Q [] p q = tt
-all_both P Q (x ∷ xs) p q = ((p.0, q.0), all_both P Q xs p.1 q.1)
+pub all_both : {X : Type 0} (P Q : X → Type 0) (xs : List X) → All P xs → All Q xs → All (λ x. P x × Q x) xs
+all_both P Q xs p q = λ k d l. (p k d l, q k d l)
 
 pub application_sound : Sound 3 application_part.payload
 unfolding sound walk
 application_sound = (decided 3 application_part.payload).0 refl
 
-pub field_sound : (k : ℕ) (xs : List ℕ) → k < 10 → (is_group_field k ≡ true → sound 3 xs ≡ true) → SoundPart 4 (field_part k xs)
-field_sound zero xs h s = plain refl
-field_sound (suc zero) xs h s = nested refl ((decided 3 xs).0 (s refl))
-field_sound (suc (suc zero)) xs h s = plain refl
-field_sound (suc (suc (suc zero))) xs h s = nested refl ((decided 3 xs).0 (s refl))
-field_sound (suc (suc (suc (suc zero)))) xs h s = plain refl
-field_sound (suc (suc (suc (suc (suc zero))))) xs h s = plain refl
-field_sound (suc (suc (suc (suc (suc (suc zero)))))) xs h s = plain refl
-field_sound (suc (suc (suc (suc (suc (suc (suc zero))))))) xs h s = nested refl ((decided 3 xs).0 (s refl))
-field_sound (suc (suc (suc (suc (suc (suc (suc (suc zero)))))))) xs h s = nested refl ((decided 3 xs).0 (s refl))
-field_sound (suc (suc (suc (suc (suc (suc (suc (suc (suc zero))))))))) xs h s = plain refl
-field_sound (suc (suc (suc (suc (suc (suc (suc (suc (suc (suc k)))))))))) xs h s = absurd (omega arith)
-
 pub group_fields : GroupFields
-group_fields zero h = refl
-group_fields (suc zero) h = refl
-group_fields (suc (suc zero)) h = refl
-group_fields (suc (suc (suc zero))) h = refl
-group_fields (suc (suc (suc (suc zero)))) h = refl
-group_fields (suc (suc (suc (suc (suc zero))))) h = refl
-group_fields (suc (suc (suc (suc (suc (suc zero)))))) h = refl
-group_fields (suc (suc (suc (suc (suc (suc (suc zero))))))) h = refl
-group_fields (suc (suc (suc (suc (suc (suc (suc (suc zero)))))))) h = refl
-group_fields (suc (suc (suc (suc (suc (suc (suc (suc (suc zero))))))))) h = refl
-group_fields (suc (suc (suc (suc (suc (suc (suc (suc (suc (suc k)))))))))) h = absurd (omega arith)
+group_fields k h = grind (arith, nat_tests)
+
+-- the vendor that a field's header names
+vendor_named : (k : ℕ) (xs : List ℕ) → part_vendor (field_part k xs) ≡ field_vendor k
+vendor_named k xs = grind (arith, nat_tests)
+
+pub field_sound : (k : ℕ) (xs : List ℕ) → k < 10 → (is_group_field k ≡ true → sound 3 xs ≡ true) → SoundPart 4 (field_part k xs)
+field_sound k xs h s =
+    let named = ap (group (field_code k)) (vendor_named k xs) in
+    ⊎_elim
+    (λ t. nested (named ∙ group_fields k h ∙ t) ((decided 3 xs).0 (s t)))
+    (λ f. plain (named ∙ group_fields k h ∙ f))
+    (cases_Bool (is_group_field k))

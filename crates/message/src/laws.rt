@@ -2,6 +2,7 @@
 ghost use Rattle.message.specs.Laws.{GroupFields, ApplicationWorked};
 
 /// The groups among the fields are 1, 3, 7 and 8.
+#[tactic(auto, using(crate::proofs::Parts::group_fields))]
 pub fn group_fields()
     ensures { GroupFields }
 {}

@@ -1,15 +1,10 @@
 //! The AVPs that every message carries: the application, and who sends it.
-ghost use Rattle.std.specs.Prelude.{◌≡◌, ◌+◌, ◌≤◌, ◌++◌, length};
-ghost use Rattle.writer.specs.Bytes.{bytes32};
-ghost use Rattle.writer.specs.Avps.{avp};
-ghost use Rattle.writer.specs.Stores.{Appends, room};
-ghost use Rattle.message.specs.Limits.{name_limit};
-ghost use Rattle.message.specs.Messages.{application_avp, sender_avps, sender_size};
+ghost use Rattle.std.specs.Prelude.{◌≡◌, ◌≤◌, length};
+ghost use Rattle.message.specs.Messages.{application_avp, sender_avps};
 
-use crate::known::put_known;
 use crate::origin::Origin;
+use crate::section::{Avp, Octets, Section};
 use dictionary::known::Known;
-use writer::avp::avp_size;
 use writer::writer::Writer;
 
 /// The Vendor-Specific-Application-Id of e2: vendor 13019, application 16777231.
@@ -19,38 +14,64 @@ const APPLICATION_ID: [u8; 32] =
 /// The Auth-Session-State of one who keeps no state.
 const NO_STATE: u32 = 1;
 
-/// The same 32 bytes in every message.
-pub fn put_application(w: &mut Writer<'_>)
-    requires { room 32 w.old }
-    ensures { Appends w.old application_avp w.new }
-{
-    w.bytes(&APPLICATION_ID);
-}
+/// The application: the same 32 bytes in every message.
+#[derive(Clone, Copy)]
+pub struct ApplicationId;
 
-/// An Auth-Session-State, an Origin-Host and an Origin-Realm.
-fn put_origin(w: &mut Writer<'_>, state: u32, host: &[u8], realm: &[u8])
-    requires { (room (sender_size host.now realm.now) w.old) × ((length host.now ≤ name_limit) × (length realm.now ≤ name_limit)) }
-    ensures wrote { Appends w.old (avp 277 0x40 0 (bytes32 state) ++ (avp 264 0x40 0 host.now ++ avp 296 0x40 0 realm.now)) w.new }
-    ensures ends { w.new.end ≡ w.old.end + sender_size host.now realm.now }
-{
-    put_known(w, Known::AuthSessionState, &state.to_be_bytes());
-    put_known(w, Known::OriginHost, host);
-    put_known(w, Known::OriginRealm, realm);
+impl Section for ApplicationId {
+    ghost bytes = { λ _. application_avp };
+
+    ghost most = { 32 };
+
+    fn size(&self) -> usize {
+        APPLICATION_ID.len()
+    }
+
+    fn put(&self, w: &mut Writer<'_>) {
+        w.bytes(&APPLICATION_ID);
+    }
 }
 
 /// The Auth-Session-State, which says that no state is kept, and our Origin-Host and Origin-Realm.
-pub fn put_sender(w: &mut Writer<'_>, origin: Origin<'_>)
-    requires { room (sender_size origin.host.now origin.realm.now) w.old }
-    ensures wrote { Appends w.old (sender_avps origin.entry.host.now origin.entry.realm.now) w.new }
-    ensures ends { w.new.end ≡ w.old.end + sender_size origin.entry.host.now origin.entry.realm.now }
-{
-    put_origin(w, NO_STATE, origin.host(), origin.realm());
+#[derive(Clone, Copy)]
+pub struct Sender<'a>(pub Origin<'a>);
+
+/// An Auth-Session-State, an Origin-Host and an Origin-Realm.
+type SenderAvps<'a> = (
+    Avp<Known, u32>,
+    (Avp<Known, Octets<'a>>, Avp<Known, Octets<'a>>),
+);
+
+impl<'a> Sender<'a> {
+    fn avps(self) -> SenderAvps<'a>
+        ensures { ⟦<SenderAvps<'a> as Section>⟧.bytes result ≡ sender_avps self.entry.0.host.now self.entry.0.realm.now }
+    {
+        let state = Avp {
+            kind: Known::AuthSessionState,
+            data: NO_STATE,
+        };
+        let host = Avp {
+            kind: Known::OriginHost,
+            data: Octets::new(self.0.host()),
+        };
+        let realm = Avp {
+            kind: Known::OriginRealm,
+            data: Octets::new(self.0.realm()),
+        };
+        (state, (host, realm))
+    }
 }
 
-/// How long these three are.
-pub fn sender_size(origin: Origin<'_>) -> usize
-    ensures is { result ≡ sender_size origin.entry.host.now origin.entry.realm.now }
-    ensures most { result ≤ 156 }
-{
-    12 + avp_size(0x40, origin.host().len()) + avp_size(0x40, origin.realm().len())
+impl Section for Sender<'_> {
+    ghost bytes = { λ s. sender_avps s.0.host.now s.0.realm.now };
+
+    ghost most = { 156 };
+
+    fn size(&self) -> usize {
+        self.avps().size()
+    }
+
+    fn put(&self, w: &mut Writer<'_>) {
+        self.avps().put(w);
+    }
 }

@@ -1,6 +1,7 @@
 -- A notification as its AVPs put end to end: sound, read back, and within the buffer.
 use Rattle.std.proofs.Common.{◌≡◌, ℕ, ◌+◌, ◌≤◌, Bool, true, false, cond, ◌&&◌, List, [], ◌∷◌, ◌++◌, map, length, Some, None, sym, refl, ap, ◌∙◌, append_assoc, append-nil, arith}
-use Rattle.std.specs.List.{AllByRecursion}
+use Rattle.std.specs.List.{All, AllByRecursion}
+use Rattle.std.proofs.lemmas.List.Elements.{All-from_recursion}
 use Rattle.std.proofs.lemmas.Bool.Decides.{nat_tests}
 use Rattle.diameter.specs.Headers.{body}
 use Rattle.diameter.specs.Lists.{Avp, avps, named, only_such}
@@ -11,7 +12,6 @@ use Rattle.dictionary.specs.Addresses.{Address, sized, paired}
 use Rattle.writer.specs.Bytes.{bytes32}
 use Rattle.writer.specs.Avps.{avp}
 use Rattle.writer.specs.Parts.{Part, part_bytes, parts_bytes, part_avp, Encodable, SoundPart, plain, nested}
-use Rattle.writer.proofs.Digits.{length_decimal}
 use Rattle.writer.proofs.Written.{parts_sound, parts_read_back, header_read_back}
 use Rattle.message.specs.Limits.{value_limit, field_limit}
 use Rattle.message.specs.Fields.{field_flags, field_part, field_size}
@@ -22,7 +22,7 @@ use Rattle.notification.specs.Limits.{address_limit, place_limit}
 use Rattle.notification.specs.Notifications.{Notification, session_of, event_number, address_data, tells_field, field_avp_size, notification_body, notification_bytes}
 use Rattle.notification.specs.Parts.{told_parts, notification_parts}
 use Rattle.notification.specs.Laws.{Bounded, ValueSound, NotificationsFit, NotificationsSound, NotificationsReadBack, HeaderWorked, AddressesReadBack, EventsReadBack}
-use Rattle.notification.proofs.Lengths.{length_session, length_address, length_whole, length_notification}
+use Rattle.notification.proofs.Lengths.{length_decimal, length_session, length_address, length_whole, length_notification}
 
 told_bytes : (b : Bool) (p : Part) → cond b (part_bytes p) [] ≡ parts_bytes (cond b (p ∷ []) [])
 told_bytes true p = sym (append-nil (part_bytes p))
@@ -75,12 +75,13 @@ told_all : (P : Part → Type 0) (b : Bool) (p : Part) → (b ≡ true → P p) 
 told_all P true p h = (h refl, tt)
 told_all P false p h = tt
 
-parts_fit : (n : Notification) → Bounded n → AllByRecursion Encodable (notification_parts n)
+parts_fit : (n : Notification) → Bounded n → All Encodable (notification_parts n)
 parts_fit n b =
     let l = length_address n.address in
     let i = b.ip in
     let p = b.place in
-    let m = b.name in (
+    let m = b.name in
+    All-from_recursion Encodable (notification_parts n) (
       one_fits 263 (session_of n.host n.number n.serial) (omega arith) (omega (arith, session_le n b)),
       (
         one_fits 260 application_part.payload (omega arith) (omega arith),
@@ -123,8 +124,9 @@ address_parts a = one 8 a.ip ∷ record { code = 301; flags = 0xC0; vendor = 130
 address_bytes : (a : Address) → address_data a ≡ parts_bytes (address_parts a)
 address_bytes a = ap (λ (l : List ℕ). avp 8 0x40 0 a.ip ++ l) (sym (append-nil (avp 301 0xC0 13019 a.realm)))
 
-address_parts_fit : (a : Address) → length a.ip ≤ address_limit → length a.realm ≤ place_limit → AllByRecursion Encodable (address_parts a)
+address_parts_fit : (a : Address) → length a.ip ≤ address_limit → length a.realm ≤ place_limit → All Encodable (address_parts a)
 address_parts_fit a i p =
+    All-from_recursion Encodable (address_parts a)
     (one_fits 8 a.ip (omega arith) (omega arith), (record { code_fits = omega arith; vendor_fits = omega arith; size_fits = omega arith }, tt))
 
 address_sound : (a : Address) → length a.ip ≤ address_limit → length a.realm ≤ place_limit → Sound 3 (address_data a)
@@ -132,10 +134,10 @@ address_sound a i p =
     (decided 3 (address_data a)).0
     (ap (sound 3) (address_bytes a)
     ∙ (decided 3 (parts_bytes (address_parts a))).1
-    (parts_sound 3 (address_parts a) (all_both Encodable (SoundPart 3) (address_parts a) (address_parts_fit a i p) (plain refl, (plain refl, tt)))))
+    (parts_sound 3 (address_parts a) (all_both Encodable (SoundPart 3) (address_parts a) (address_parts_fit a i p) (All-from_recursion (SoundPart 3) (address_parts a) (plain refl, (plain refl, tt))))))
 
-all_sound : (n : Notification) → Bounded n → ValueSound n → AllByRecursion (SoundPart 4) (notification_parts n)
-all_sound n b v = (
+all_sound : (n : Notification) → Bounded n → ValueSound n → All (SoundPart 4) (notification_parts n)
+all_sound n b v = All-from_recursion (SoundPart 4) (notification_parts n) (
   plain refl,
   (
     nested refl application_sound,

@@ -1,5 +1,6 @@
 -- How long a notification is.
-use Rattle.std.proofs.Common.{◌≡◌, ℕ, suc, ◌+◌, Bool, true, false, cond, List, [], ◌∷◌, ◌++◌, length, decimal, refl, ap, ◌∙◌, arith, length-append}
+use Rattle.std.proofs.Common.{◌≡◌, ℕ, suc, ◌+◌, ◌^◌, ◌<◌, ◌≤◌, Bool, true, false, cond, List, [], ◌∷◌, ◌++◌, length, decimal, refl, ap, ◌∙◌, arith, length-append}
+use Rattle.std.proofs.lemmas.Fmt.{length-decimal-le}
 use Rattle.dictionary.specs.Addresses.{Address}
 use Rattle.writer.specs.Bytes.{bytes32}
 use Rattle.writer.specs.Avps.{avp}
@@ -9,6 +10,9 @@ use Rattle.message.specs.Fields.{field_code, field_vendor, field_flags, field_pa
 use Rattle.message.specs.Messages.{application_avp, sender_avps}
 use Rattle.message.proofs.Parts.{length_sender}
 use Rattle.notification.specs.Notifications.{Notification, session_of, address_data, address_size, tells_field, field_avp, field_avp_size, peer_avps, peer_size, event_avps, event_size, notification_body, body_size, notification_bytes}
+
+pub length_decimal : (n : ℕ) → n < 2 ^ 32 → length (decimal n) ≤ 10
+length_decimal n f = length-decimal-le 10 n (omega arith) (omega arith) (omega arith)
 
 pub length_session : (host : List ℕ) (number serial : ℕ) → length (session_of host number serial) ≡ length host + 1 + length (decimal number) + 1 + length (decimal serial)
 length_session host number serial =

@@ -1,5 +1,5 @@
 -- AVPs as bytes: how long they are, and what their header says.
-use Rattle.std.proofs.Common.{◌≡◌, ℕ, ◌+◌, ◌-◌, ◌%◌, ◌^◌, ◌<◌, Bool, true, false, cond, List, [], ◌∷◌, ◌++◌, length, take, drop, sym, refl, ap, ◌∙◌, append-nil, arith, length-append}
+use Rattle.std.proofs.Common.{◌≡◌, ℕ, ◌+◌, ◌-◌, ◌%◌, ◌^◌, ◌<◌, Bool, true, false, cond, List, [], ◌∷◌, ◌++◌, length, take, drop, sym, refl, ap, ◌∙◌, arith, length-append}
 use lib.ListN.{length-replicate}
 use Rattle.std.proofs.lemmas.List.{take_at}
 use Rattle.std.proofs.lemmas.Bool.Decides.{nat_tests}
@@ -26,25 +26,13 @@ length_avp code flags vendor payload = length_laid (flagged 0x80 flags) code fla
 pub avp_size_whole : (flags n : ℕ) → avp_size flags n % 4 ≡ 0
 avp_size_whole flags n = omega arith
 
-pub padding_whole : (n : ℕ) → n % 4 ≡ 0 → padding n ≡ 0
-padding_whole n h = omega arith
-
 -- an AVP whose header was written with the length n, before its data
 pub sized_avp : (code flags vendor n : ℕ) (payload : List ℕ) → n ≡ length payload → avp_header code flags vendor n ++ (payload ++ zeros (padding n)) ≡ avp code flags vendor payload
 sized_avp code flags vendor n payload e = λ i. avp_header code flags vendor (e i) ++ (payload ++ zeros (padding (e i)))
 
--- a group is its header, with the length of its parts, and its parts
-pub group_avp : (code flags vendor n : ℕ) (parts : List ℕ) → n ≡ length parts → n % 4 ≡ 0 → avp_header code flags vendor n ++ parts ≡ avp code flags vendor parts
-group_avp code flags vendor n parts e h =
-    let z : 0 ≡ padding (length parts) = omega arith in
-    (λ i. avp_header code flags vendor (e i) ++ sym (append-nil parts) i) ∙ (λ i. avp_header code flags vendor (length parts) ++ (parts ++ zeros (z i)))
-
 module _ (code flags vendor : ℕ) (payload rest : List ℕ) where
   pub code_avp : code < 2 ^ 32 → at_front.code (avp code flags vendor payload ++ rest) ≡ code
   code_avp h = be32_bytes32 code rest h
-
-  pub size_avp : head_size flags + length payload < 2 ^ 24 → at_front.size (avp code flags vendor payload ++ rest) ≡ head_size flags + length payload
-  size_avp h = be24_bytes24 (head_size flags + length payload) rest h
 
   vendor_laid : (b : Bool) → vendor < 2 ^ 32 → cond b (be32 (laid b code flags vendor payload ++ rest) 8) 0 ≡ cond b vendor 0
   vendor_laid true h = be32_bytes32 vendor rest h

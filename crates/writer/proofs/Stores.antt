@@ -1,12 +1,11 @@
 -- Stores, one at a time and in a row.
-use Rattle.std.proofs.Common.{◌≡◌, ℕ, ◌+◌, ◌-◌, ◌≤◌, List, [], ◌++◌, length, get_or, take, drop, sym, refl, ap, ◌∙◌, subst, append_assoc, append-nil, add-zero, arith, length-append, length-drop, length-take, drop-drop}
-use denote.MutBor.{MutBor}
+use Rattle.std.proofs.Common.{◌≡◌, ℕ, ◌+◌, ◌-◌, ◌≤◌, List, ◌++◌, length, get_or, take, drop, sym, ap, ◌∙◌, subst, append_assoc, arith, length-append, length-drop, length-take, drop-drop}
 use borrow.Rule.Slice.PartMut.{put_mid}
 use Rattle.std.proofs.lemmas.List.{length-take-le, get_or-take, get_or-drop, get_or_append_left, get_or-append-add}
 use Rattle.std.proofs.lemmas.Slice.{take-put_mid, drop-put_mid}
 use Rattle.writer.specs.declared.writer.Writer.{Writer}
-use Rattle.writer.specs.Stores.{Wrote, Appends, Begins}
-use Rattle.writer.specs.Laws.{Stored}
+use Rattle.writer.specs.Stores.{Wrote, Appends}
+use Rattle.writer.specs.Laws.{Stored, StoresOnlyAppend, StoresCompose}
 
 -- the store of `run` in the part from `at` to `upto`
 pub wrote_part : (b : List ℕ) (at upto : ℕ) (part run : List ℕ) → part ≡ run → upto ≡ at + length run → upto ≤ length b → Wrote b at run (put_mid at (upto - at) b part) upto
@@ -36,29 +35,15 @@ infixr 30 ◌⊕◌
 pub ◌⊕◌ : {w₀ w₁ w₂ : Writer} {xs ys : List ℕ} → Appends w₀ xs w₁ → Appends w₁ ys w₂ → Appends w₀ (xs ++ ys) w₂
 ◌⊕◌ v w = record { wrote = wrote_both v.wrote w.wrote; same = w.same ∙ v.same }
 
--- no store
-pub appends_none : (w : Writer) → Appends w [] w
-appends_none w =
-    record {
-      wrote = record { end = sym (add-zero w.end); front = sym (append-nil (take w.end w.buffer.now)); rest = refl; size = refl };
-      same = refl;
-    }
+pub stores_compose : StoresCompose
+stores_compose w₀ w₁ w₂ xs ys v w = v ⊕ w
 
 -- the same bytes, said otherwise
 pub appends_as : {w w' : Writer} {xs ys : List ℕ} → xs ≡ ys → Appends w xs w' → Appends w ys w'
 appends_as {w} {w'} e v = subst (λ (q : List ℕ). Appends w q w') e v
 
--- the writer at the end under the name that it has where ways meet
-pub appends_to : {w w' v : Writer} {xs : List ℕ} → v ≡ w' → Appends w xs w' → Appends w xs v
-appends_to {w} {w'} {v} {xs} e a = subst (λ (q : Writer). Appends w xs q) (sym e) a
-
--- what a buffer holds that was lent to a writer from its start
-pub wrote_from_start : {b : MutBor (List ℕ)} {w w' : Writer} {xs after : List ℕ} {r : ℕ} → Begins b w → Appends w xs w' → r ≡ w'.end → after ≡ w'.buffer.now → Wrote b.now 0 xs after r
-wrote_from_start {b} {w} {w'} {xs} {after} {r} s a e h =
-    subst (λ (v : List ℕ × ℕ × List ℕ × ℕ). Wrote v.0 v.1 xs v.2 v.3) (λ i. (s.holds i, s.start i, sym h i, sym e i)) a.wrote
-
 -- a store byte by byte
-pub stored : {b b' bytes : List ℕ} {at upto : ℕ} → at + length bytes ≤ length b → Wrote b at bytes b' upto → Stored b at bytes b' upto
+stored : {b b' bytes : List ℕ} {at upto : ℕ} → at + length bytes ≤ length b → Wrote b at bytes b' upto → Stored b at bytes b' upto
 stored {b} {b'} {bytes} {at} {upto} fits w =
     let e = w.end in
     let l : length (take at b) ≡ at = length-take-le at b (omega arith) in
@@ -82,3 +67,6 @@ stored {b} {b'} {bytes} {at} {upto} fits w =
           ∙ get_or-drop upto b (i - upto) 0
           ∙ ap (λ k. get_or b k 0) n;
     }
+
+pub stores_only_append : StoresOnlyAppend
+stores_only_append w w' bytes fits a = stored fits a.wrote

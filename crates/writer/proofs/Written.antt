@@ -1,6 +1,7 @@
 -- What holds of all that is written.
 use Rattle.std.proofs.Common.{◌≡◌, ℕ, suc, ◌+◌, ◌%◌, true, ◌&&◌, List, [], ◌∷◌, ◌++◌, length, take, sym, refl, ap, ◌∙◌, subst, append-nil, arith, length-append}
 use Rattle.std.proofs.lemmas.List.{take_at}
+use Rattle.std.proofs.lemmas.List.Elements.{All-head, All-tail}
 use Rattle.diameter.specs.Avps.{code, vendor, step, payload, group}
 use Rattle.diameter.specs.Lists.{front, avps, cut}
 use Rattle.diameter.specs.Laws.{Piece, Sound, none}
@@ -66,8 +67,9 @@ part_keeps_sound rest e (nested {n} {p} g i) s = group_keeps_sound n p rest e g 
 pub parts_sound : PartsSound
 parts_sound n [] a = none
 parts_sound n (p ∷ ps) a =
-    (decided n (part_bytes p ++ parts_bytes ps)).0
-    (part_keeps_sound (parts_bytes ps) a.0.0 a.0.1 ((decided n (parts_bytes ps)).1 (parts_sound n ps a.1)))
+    let first = All-head (λ q. Encodable q × SoundPart n q) p ps a in
+    let others = parts_sound n ps (All-tail (λ q. Encodable q × SoundPart n q) p ps a) in
+    (decided n (part_bytes p ++ parts_bytes ps)).0 (part_keeps_sound (parts_bytes ps) first.0 first.1 ((decided n (parts_bytes ps)).1 others))
 
 -- one part alone
 pub part_sound : {n : ℕ} {p : Part} → Encodable p → SoundPart n p → Sound n (part_bytes p)
@@ -86,7 +88,9 @@ parts_size_whole (p ∷ ps) = omega (arith, avp_size_whole p.flags (length p.pay
 pub parts_read_back : PartsReadBack
 unfolding cut
 parts_read_back [] a = refl
-parts_read_back (p ∷ ps) a = (read_back p (parts_bytes ps) a.0).list_is ∙ ap (λ l. part_avp p ∷ l) (parts_read_back ps a.1)
+parts_read_back (p ∷ ps) a =
+    (read_back p (parts_bytes ps) (All-head Encodable p ps a)).list_is
+    ∙ ap (λ l. part_avp p ∷ l) (parts_read_back ps (All-tail Encodable p ps a))
 
 pub header_read_back : HeaderReadBack
 header_read_back size flags command application hop end rest s c a h e = (

@@ -2,7 +2,7 @@
 --     Stored before at bytes after upto   a store byte by byte: `bytes` stand from `at` to `upto`, and all else as before
 --     ReadBackAt xs p rest              the AVP of the part p stands at the front of xs, and is followed by rest
 use Rattle.std.specs.Prelude.{◌≡◌, ℕ, suc, ◌+◌, ◌^◌, ◌<◌, ◌≤◌, true, false, List, ◌∷◌, ◌++◌, map, length, drop, slice_index}
-use Rattle.std.specs.List.{AllByRecursion}
+use Rattle.std.specs.List.{All}
 use Rattle.diameter.specs.Avps.{stands, step, group}
 use Rattle.diameter.specs.Headers.{header_of, body}
 use Rattle.diameter.specs.Lists.{front, avps}
@@ -49,11 +49,11 @@ GroupKeepsSound =
 
 -- parts put end to end are a sound sequence, as the rule words it
 abbrev pub PartsSound : Type 0
-PartsSound = (n : ℕ) (ps : List Part) → AllByRecursion (λ p. Encodable p × SoundPart n p) ps → Sound n (parts_bytes ps)
+PartsSound = (n : ℕ) (ps : List Part) → All (λ p. Encodable p × SoundPart n p) ps → Sound n (parts_bytes ps)
 
 -- and are read back one by one
 abbrev pub PartsReadBack : Type 0
-PartsReadBack = (ps : List Part) → AllByRecursion Encodable ps → avps (parts_bytes ps) ≡ map part_avp ps
+PartsReadBack = (ps : List Part) → All Encodable ps → avps (parts_bytes ps) ≡ map part_avp ps
 
 -- the header of a message says what was written, in version 1
 abbrev pub HeaderReadBack : Type 0

@@ -7,6 +7,14 @@ ghost use Rattle.writer.specs.Stores.{Appends, room};
 use crate::writer::Writer;
 use diameter::avp::AvpView;
 
+/// What the header of an AVP says beside its length. The vendor is written where the flags say that there is one.
+#[derive(Clone, Copy)]
+pub struct AvpHead {
+    pub code: u32,
+    pub flags: u8,
+    pub vendor: u32,
+}
+
 /// How long the header of an AVP with these flags is.
 pub fn head_size(flags: u8) -> usize
     ensures { result ≡ head_size flags }
@@ -31,36 +39,36 @@ pub fn avp_size(flags: u8, size: usize) -> usize
 
 impl Writer<'_> {
     /// The header of an AVP with `size` bytes of data.
-    pub fn avp_header(&mut self, code: u32, flags: u8, vendor: u32, size: usize)
-        requires { (room (head_size flags) self.old) × (head_size flags + size < 2 ^ 24) }
-        ensures wrote { Appends self.old (avp_header code flags vendor size) self.new }
-        ensures ends { self.new.end ≡ self.old.end + head_size flags }
+    pub fn avp_header(&mut self, head: AvpHead, size: usize)
+        requires { (room (head_size head.flags) self.old) × (head_size head.flags + size < 2 ^ 24) }
+        ensures wrote { Appends self.old (avp_header head.code head.flags head.vendor size) self.new }
+        ensures ends { self.new.end ≡ self.old.end + head_size head.flags }
     {
-        self.u32(code);
-        self.byte(flags);
-        self.u24((head_size(flags) + size) as u32);
-        if flags & AvpView::VENDOR != 0 {
-            self.u32(vendor);
+        self.u32(head.code);
+        self.byte(head.flags);
+        self.u24((head_size(head.flags) + size) as u32);
+        if head.flags & AvpView::VENDOR != 0 {
+            self.u32(head.vendor);
         }
     }
 
     /// A whole AVP.
-    pub fn avp(&mut self, code: u32, flags: u8, vendor: u32, payload: &[u8])
-        requires { (room (avp_size flags (length payload.now)) self.old) × (head_size flags + length payload.now < 2 ^ 24) }
-        ensures wrote { Appends self.old (avp code flags vendor payload.now) self.new }
-        ensures ends { self.new.end ≡ self.old.end + avp_size flags (length payload.now) }
+    pub fn avp(&mut self, head: AvpHead, payload: &[u8])
+        requires { (room (avp_size head.flags (length payload.now)) self.old) × (head_size head.flags + length payload.now < 2 ^ 24) }
+        ensures wrote { Appends self.old (avp head.code head.flags head.vendor payload.now) self.new }
+        ensures ends { self.new.end ≡ self.old.end + avp_size head.flags (length payload.now) }
     {
-        self.avp_header(code, flags, vendor, payload.len());
+        self.avp_header(head, payload.len());
         self.bytes(payload);
         self.zeros(padding(payload.len()));
     }
 
     /// An AVP that holds one number.
-    pub fn avp_u32(&mut self, code: u32, flags: u8, vendor: u32, x: u32)
-        requires { room (avp_size flags 4) self.old }
-        ensures wrote { Appends self.old (avp code flags vendor (bytes32 x)) self.new }
-        ensures ends { self.new.end ≡ self.old.end + avp_size flags 4 }
+    pub fn avp_u32(&mut self, head: AvpHead, x: u32)
+        requires { room (avp_size head.flags 4) self.old }
+        ensures wrote { Appends self.old (avp head.code head.flags head.vendor (bytes32 x)) self.new }
+        ensures ends { self.new.end ≡ self.old.end + avp_size head.flags 4 }
     {
-        self.avp(code, flags, vendor, &x.to_be_bytes());
+        self.avp(head, &x.to_be_bytes());
     }
 }

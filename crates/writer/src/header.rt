@@ -3,27 +3,20 @@ ghost use Rattle.writer.specs.Headers.{message_header};
 ghost use Rattle.writer.specs.Stores.{Appends, room};
 
 use crate::writer::Writer;
+use diameter::header::Header;
 
 impl Writer<'_> {
-    /// The header of a message whose whole length is `size`.
-    pub fn message_header(
-        &mut self,
-        size: u32,
-        flags: u8,
-        command: u32,
-        application: u32,
-        hop_by_hop: u32,
-        end_to_end: u32,
-    )
+    /// The header of a message, in version 1 whatever `header.version` says.
+    pub fn message_header(&mut self, header: Header)
         requires { room 20 self.old }
-        ensures { Appends self.old (message_header size flags command application hop_by_hop end_to_end) self.new }
+        ensures { Appends self.old (message_header header.length header.flags header.command header.application header.hop_by_hop header.end_to_end) self.new }
     {
         self.byte(1);
-        self.u24(size);
-        self.byte(flags);
-        self.u24(command);
-        self.u32(application);
-        self.u32(hop_by_hop);
-        self.u32(end_to_end);
+        self.u24(header.length);
+        self.byte(header.flags);
+        self.u24(header.command);
+        self.u32(header.application);
+        self.u32(header.hop_by_hop);
+        self.u32(header.end_to_end);
     }
 }

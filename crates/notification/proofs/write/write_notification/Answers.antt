@@ -1,7 +1,7 @@
-use Rattle.std.proofs.Common.{◌≡◌, ℕ, ◌+◌, List, length, sym, ap, ◌∙◌, zero-add, arith, rules}
+use Rattle.std.proofs.Common.{◌≡◌, ℕ, ◌+◌, ◌++◌, length, sym, ap, ◌∙◌, arith}
 use Rattle.writer.specs.Avps.{avp}
 use Rattle.writer.specs.Headers.{message_header}
-use Rattle.writer.proofs.Stores.{◌⊕◌, appends_as, wrote_from_start}
+use Rattle.message.specs.Messages.{application_avp, sender_avps}
 use Rattle.notification.specs.Notifications.{Notification, session_of, notification_body, notification_bytes}
 use Rattle.notification.specs.Notices.{notification_of}
 use Rattle.notification.proofs.Lengths.{length_whole}
@@ -11,17 +11,16 @@ pub returns : goal.returns
 unfolding notification_bytes
 returns c =
     let n : Notification = notification_of c.args.origin c.args.to c.args.notice c.args.serial in
-    let size : c.notification_size-size.result ≡ 20 + length (notification_body n) = c.notification_size-size.ensures.is ∙ length_whole n in
-    let w =
-    wrote_from_start c.new-w.ensures
-    (appends_as (ap (λ (k : ℕ). message_header k 0xC0 309 16777231 n.serial n.serial) size) c.message_header.ensures
-    ⊕ appends_as (ap (λ (q : List ℕ). avp 263 0x40 0 (session_of q n.number n.serial)) c.host.ensures.is) c.put_session.ensures.wrote
-    ⊕ c.put_application.ensures
-    ⊕ c.put_sender.ensures.wrote
-    ⊕ c.put_peer.ensures.wrote
-    ⊕ c.put_event.ensures.wrote
-    ⊕ c.put_known.ensures.wrote
-    ⊕ c.put_told.ensures)
-    c.end.ensures (search rules) in
-    let whole : c.end.result ≡ c.notification_size-size.result = (w.end ∙ zero-add (length (notification_bytes n))) ∙ sym c.notification_size-size.ensures.is in
-    record { bytes = w.front; rest = w.rest; size = w.end ∙ zero-add (length (notification_bytes n)); within = omega (arith, c.notification_size-size.ensures.most) }
+    let body : _ ≡ notification_body n =
+    λ i. avp 263 0x40 0 (session_of n.host n.number n.serial)
+    ++ (application_avp ++ (sender_avps n.host n.realm ++ (c.peer_avps.ensures i ++ (c.event_avps.ensures i ++ (c.name_avp.ensures i ++ c.told_avp.ensures i))))) in
+    let size : 20 + c.size.result ≡ 20 + length (notification_body n) = ap (λ (k : ℕ). 20 + k) (c.size.ensures.is ∙ ap length body) in
+    record {
+      bytes =
+          c.write_message.ensures.bytes
+          ∙ (λ i. let h = c.notification_header-header.ensures i in message_header h.length h.flags h.command h.application h.hop_by_hop h.end_to_end ++ body i)
+          ∙ ap (λ (k : ℕ). message_header k 0xC0 309 16777231 n.serial n.serial ++ notification_body n) size;
+      rest = c.write_message.ensures.rest;
+      size = c.write_message.ensures.size ∙ ap (λ (k : ℕ). 20 + k) (ap length body) ∙ sym (length_whole n);
+      within = omega (arith, c.size.ensures.is, c.size.ensures.within, c.write_message.ensures.size);
+    }
