@@ -1,6 +1,7 @@
 -- Application functions as they are entered, and as they are kept.
 use Rattle.std.proofs.Common.{◌≡◌, ℕ, zero, suc, ◌+◌, ◌<◌, ◌≤◌, Bool, true, false, ◌||◌, cond, List, [], ◌∷◌, ◌++◌, map, length, get_or, take, set, Ok, Err, sym, refl, ap, ◌∙◌, arith, inl, inr}
 use Rattle.std.specs.List.{list_any, enumerate_from}
+use Rattle.std.specs.Str.{bytes_eq}
 use Rattle.std.proofs.lemmas.List.{length-map, take_all, take_more_set, map_push, map_more}
 use Rattle.std.proofs.lemmas.List.Folds.{list_any_at, list_any_more}
 use Rattle.std.proofs.lemmas.List.FromFn.{length-enumerate_from, get_or-enumerate_from}
@@ -10,7 +11,7 @@ use Rattle.refusal.specs.Verdicts.{Unrefused}
 use Rattle.refusal.specs.declared.Refusal.{Refusal}
 use Rattle.rulebook.specs.Kept.{kept_entry, kept, KeepsAf}
 use Rattle.rulebook.specs.Rows.{wrong_row}
-use Rattle.rulebook.specs.Sheets.{wrong_count, wrong_name, wrong_names, wrong_rows, entered_name, entered_row, entered_entry, entered, Entry, sheet_refusals}
+use Rattle.rulebook.specs.Sheets.{wrong_count, wrong_length, wrong_name, wrong_names, wrong_rows, entered_name, entered_row, entered_entry, entered, Entry, sheet_refusals}
 use Rattle.rulebook.specs.declared.af.Af.{Af}
 use Rattle.rulebook.specs.declared.row.AfRow.{AfRow}
 
@@ -30,8 +31,8 @@ no_af = record { name = record { ref_ptr = (0, 0); now = [] }; allowed = 0; over
 pub short : (afs : List AfRow) (k : ℕ) → k < length afs → wrong_names entered_name afs ≡ false → length (entered_name (get_or afs k no_af)) ≤ 64
 short afs k l h =
     let e : get_or (enumerate_from 0 afs) k (0, no_af) ≡ (0 + k, get_or afs k no_af) = get_or-enumerate_from 0 afs k (0, no_af) l in
-    let right : wrong_name (map entered_name (take (0 + k) afs)) (entered_name (get_or afs k no_af)) ≡ false =
-    ap (λ (p : ℕ × AfRow). wrong_name (map entered_name (take p.0 afs)) (entered_name p.1)) (sym e)
+    let right : wrong_name entered_name (take (0 + k) afs) (entered_name (get_or afs k no_af)) ≡ false =
+    ap (λ (p : ℕ × AfRow). wrong_name entered_name (take p.0 afs) (entered_name p.1)) (sym e)
     ∙ none_at _ (enumerate_from 0 afs) k (0, no_af) (omega (arith, length-enumerate_from 0 afs)) h in
     grind (arith, nat_tests)
 
@@ -56,17 +57,19 @@ pub right_more : (rows : List AfRow) (k : ℕ) (x : Af) → k < length rows → 
 right_more rows k x l told before =
     list_any_more (λ a. wrong_row (entered_row a)) rows k no_af l ∙ (λ i. before i || (one_ok _ _ _ _ told).1 i)
 
-front_names : (afs : List AfRow) (k : ℕ) → map (λ (e : Entry). e.name) (take k (entered afs)) ≡ map entered_name (take k afs)
-front_names afs zero = refl
-front_names [] (suc k) = refl
-front_names (a ∷ afs) (suc k) = ap (λ (ns : List (List ℕ)). entered_name a ∷ ns) (front_names afs k)
+-- a test of the first k entries is one of the first k AFs
+tested_front : (p : List ℕ → Bool) (afs : List AfRow) (k : ℕ) → list_any (λ (e : Entry). p e.name) (take k (entered afs)) ≡ list_any (λ a. p (entered_name a)) (take k afs)
+tested_front p afs zero = refl
+tested_front p [] (suc k) = refl
+tested_front p (a ∷ afs) (suc k) = ap (λ b. p (entered_name a) || b) (tested_front p afs k)
 
 -- the same names are wrong where the AFs are told as entries
 later_names : (all : List AfRow) (afs : List AfRow) (k : ℕ)
-    → list_any (λ (p : ℕ × Entry). wrong_name (map (λ (e : Entry). e.name) (take p.0 (entered all))) p.1.name) (enumerate_from k (entered afs))
-    ≡ list_any (λ (p : ℕ × AfRow). wrong_name (map entered_name (take p.0 all)) (entered_name p.1)) (enumerate_from k afs)
+    → list_any (λ (p : ℕ × Entry). wrong_name (λ (e : Entry). e.name) (take p.0 (entered all)) p.1.name) (enumerate_from k (entered afs))
+    ≡ list_any (λ (p : ℕ × AfRow). wrong_name entered_name (take p.0 all) (entered_name p.1)) (enumerate_from k afs)
 later_names all [] k = refl
-later_names all (a ∷ afs) k = λ i. wrong_name (front_names all k i) (entered_name a) || later_names all afs (k + 1) i
+later_names all (a ∷ afs) k =
+    λ i. (wrong_length (length (entered_name a)) || tested_front (λ (n : List ℕ). bytes_eq n (entered_name a)) all k i) || later_names all afs (k + 1) i
 
 pub names_entered : (afs : List AfRow) → wrong_names (λ e. e.name) (entered afs) ≡ wrong_names entered_name afs
 names_entered afs = later_names afs afs 0

@@ -1,4 +1,3 @@
-pub mod Tested
 pub mod Entered
 pub mod Reached
 pub mod Answering

@@ -1,9 +1,9 @@
 -- Sheets: the names and the rows of the application functions (AFs) by number, and what is refused.
 --     wrong_count n        n is no number of AFs for a sheet
 --     wrong_length n       n is no length for a name
---     wrong_name ns n      the name n has a wrong length or is equal to one of the earlier names ns
---     wrong_names name xs  some of the AFs xs has a wrong name after those before it; name tells the name of each
---     wrong_rows row xs    some of the AFs xs has a wrong row; row tells the row of each
+--     wrong_name name xs n the name n has a wrong length or is that of one of the earlier AFs xs; name tells the name of an AF
+--     wrong_names name xs  some of the AFs xs has a wrong name after those before it
+--     wrong_rows row xs    some of the AFs xs has a wrong row; row tells the row of an AF
 --     Entry                what a sheet says of an AF: its name and its row
 --     names s              the names in what a sheet says, by AF number
 --     rows s               the rows in it
@@ -27,11 +27,11 @@ wrong_count n = n == 0 || nat_lt 32 n
 abbrev pub wrong_length : ℕ → Bool
 wrong_length n = n == 0 || nat_lt 64 n
 
-abbrev pub wrong_name : List (List ℕ) → List ℕ → Bool
-wrong_name ns n = wrong_length (length n) || list_any (λ e. bytes_eq e n) ns
+abbrev pub wrong_name : {X : Type 0} → (X → List ℕ) → List X → List ℕ → Bool
+wrong_name name xs n = wrong_length (length n) || list_any (λ x. bytes_eq (name x) n) xs
 
 abbrev pub wrong_names : {X : Type 0} → (X → List ℕ) → List X → Bool
-wrong_names name xs = list_any (λ p. wrong_name (map name (take p.0 xs)) (name p.1)) (enumerate_from 0 xs)
+wrong_names name xs = list_any (λ p. wrong_name name (take p.0 xs) (name p.1)) (enumerate_from 0 xs)
 
 abbrev pub wrong_rows : {X : Type 0} → (X → Row) → List X → Bool
 wrong_rows row xs = list_any (λ x. wrong_row (row x)) xs

@@ -1,5 +1,5 @@
 //! Application functions on their way into a sheet: the tests that they pass, and how they are kept.
-ghost use Rattle.std.specs.Prelude.{◌≡◌, ◌≤◌, false, [], ◌∷◌, map, length};
+ghost use Rattle.std.specs.Prelude.{◌≡◌, ◌≤◌, false, [], ◌∷◌, length};
 ghost use Rattle.std.specs.List.{list_any};
 ghost use Rattle.std.specs.Str.{bytes_eq};
 ghost use Rattle.refusal.specs.Verdicts.{judged, told};
@@ -15,13 +15,12 @@ use refusal::Refusal;
 fn is_taken(afs: &[AfRow<'_>], name: &[u8]) -> bool
     ensures { result ≡ list_any (λ a. bytes_eq (entered_name a) name.now) afs.now }
 {
-    afs.iter().any(|af| af.is_named(name))
+    afs.iter().any(|af| af.name == name)
 }
 
 /// Whether a name is empty, too long or that of an earlier application function.
-#[tactic(auto, using(crate::proofs::Tested::list_any_entered))]
 fn is_wrong_name(earlier: &[AfRow<'_>], name: &[u8]) -> bool
-    ensures { result ≡ wrong_name (map entered_name earlier.now) name.now }
+    ensures { result ≡ wrong_name entered_name earlier.now name.now }
 {
     name.is_empty() || name.len() > 64 || is_taken(earlier, name)
 }

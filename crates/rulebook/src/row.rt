@@ -1,8 +1,7 @@
 //! The rights of one application function, as two plain numbers.
 ghost use Rattle.std.specs.Prelude.{◌≡◌};
-ghost use Rattle.std.specs.Str.{bytes_eq};
 ghost use Rattle.rulebook.specs.Rows.{wrong_row};
-ghost use Rattle.rulebook.specs.Sheets.{entered_name, entered_row};
+ghost use Rattle.rulebook.specs.Sheets.{entered_row};
 
 use crate::rights::Rights;
 
@@ -14,6 +13,7 @@ pub struct Row {
 }
 
 /// An application function as it is entered into a sheet.
+// Its rights are two plain numbers, as in `Row`: this is the interface, and nothing is known of them yet.
 #[derive(Clone, Copy)]
 pub struct AfRow<'a> {
     pub name: &'a [u8],
@@ -27,16 +27,6 @@ impl Row {
         ensures { result ≡ wrong_row self }
     {
         Rights::try_from(self).is_err()
-    }
-}
-
-impl AfRow<'_> {
-    /// Whether it has this name.
-    #[tactic(auto, using(crate::proofs::Tested::same_text))]
-    pub(crate) fn is_named(&self, name: &[u8]) -> bool
-        ensures { result ≡ bytes_eq (entered_name self.now) name.now }
-    {
-        self.name == name
     }
 }
 

@@ -11,7 +11,7 @@ use crate::row::{AfRow, Row};
 use refusal::Refusal;
 
 /// 1 to 32 application functions, numbered from 0, each with a name of its own and a sound row.
-// An array with a length, since a sheet is `Copy` and takes no memory from the heap.
+// An array with a length: a sheet takes no memory from the heap and is `Copy`, which `ArrayVec` is not.
 #[derive(Clone, Copy)]
 pub struct AfSheet {
     pub(crate) afs: [Af; 32],

@@ -11,7 +11,7 @@ use crate::sheet::AfSheet;
 use fieldset::FieldSet;
 
 /// The first `count` rows, by number. They are plain numbers, and a set is made of one when it is read.
-// An array with a length, since whoever has a book may write and put back a row, and it takes no memory from the heap.
+// An array with a length, in plain numbers: whoever has a book may write and put back a row, and it takes no memory from the heap.
 #[derive(Clone, Copy)]
 pub struct SheetBook {
     pub rows: [Row; 32],

@@ -7,6 +7,7 @@ use crate::book::RuleBook;
 use fieldset::FieldSet;
 
 /// Of the fields that are allowed, those that are not withheld or are overriding.
+// Three sets, the first two in no pair: a book answers each question by itself, and need not keep the overriding among the allowed.
 pub fn view(allowed: FieldSet, overriding: FieldSet, withheld: FieldSet) -> FieldSet
     ensures is { result.bits ≡ view allowed.bits overriding.bits withheld.bits }
     ensures each { (k : ℕ) → has result.bits k ≡ seen allowed.bits overriding.bits withheld.bits k }
