@@ -1,5 +1,5 @@
 -- How long an answer is.
-use Rattle.std.proofs.Common.{◌≡◌, ℕ, suc, ◌+◌, ◌≤◌, Bool, true, false, cond, eqb, List, [], ◌++◌, length, refl, ap, ◌∙◌, arith, length-append}
+use Rattle.std.proofs.Common.{◌≡◌, ℕ, ◌+◌, ◌≤◌, Bool, true, false, cond, eqb, List, [], ◌++◌, length, refl, ap, ◌∙◌, arith, length-append}
 use lib.ListN.{length-replicate}
 use Rattle.refusal.specs.declared.ResultCode.{ResultCode}
 use Rattle.refusal.specs.declared.ResultCode.TheVariants.{Base, Experimental}
@@ -10,10 +10,10 @@ use Rattle.writer.specs.Bytes.{zeros}
 use Rattle.writer.specs.Avps.{avp}
 use Rattle.writer.specs.Parts.{parts_bytes}
 use Rattle.writer.proofs.Avps.{length_avp, avp_size_whole}
-use Rattle.writer.proofs.Written.{length_parts}
+use Rattle.writer.proofs.Written.{length_parts, length_message}
 use Rattle.message.specs.Fields.{field_parts}
 use Rattle.answer.specs.Faults.{copy, blank, failed_avp, failed_size, kept_of, held_of}
-use Rattle.answer.specs.Answers.{Answer, session_avp, session_size, result_avp, result_size, answer_front, front_size, answer_body, body_size, answer_bytes}
+use Rattle.answer.specs.Answers.{Answer, answer_flags, session_avp, session_size, result_avp, result_size, answer_front, front_size, answer_body, body_size, answer_bytes}
 use Rattle.message.specs.Messages.{application_avp, sender_avps}
 use Rattle.message.proofs.Parts.{length_sender}
 use Rattle.answer.proofs.Faults.{length_copy}
@@ -56,13 +56,11 @@ length_body a h =
     length_front a.session a.result a.host a.realm i
     + (length-append fields (failed_avp a.fault) ∙ (λ j. length_parts (field_parts a.values (members 10 a.shown)) j + length_failed a.fault h j)) i)
 
-suc20 : (n m : ℕ) → n ≡ m → suc (suc (suc (suc (suc (suc (suc (suc (suc (suc (suc (suc (suc (suc (suc (suc (suc (suc (suc (suc n))))))))))))))))))) ≡ 20 + m
-suc20 n m e = omega arith
-
 -- the header has 20 bytes
 pub length_whole : (a : Answer) → length (answer_bytes a) ≡ 20 + length (answer_body a)
 unfolding answer_bytes
-length_whole a = suc20 (length (answer_body a)) (length (answer_body a)) refl
+length_whole a =
+    length_message (20 + length (answer_body a)) (answer_flags a.request.flags a.result) a.request.command a.request.application a.request.hop_by_hop a.request.end_to_end (answer_body a)
 
 pub length_answer : (a : Answer) → kept_of a.fault ≤ held_of a.fault → length (answer_bytes a) ≡ 20 + body_size a
 length_answer a h = length_whole a ∙ ap (λ (n : ℕ). 20 + n) (length_body a h)

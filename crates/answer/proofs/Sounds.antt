@@ -1,20 +1,22 @@
 -- Answers are sound: each AVP is no group, or a group with sound data.
-use Rattle.std.proofs.Common.{ℕ, ◌^◌, ◌<◌, eqb, List, [], ◌∷◌, ◌++◌, length, refl, ap, ◌∙◌, arith}
+use Rattle.std.proofs.Common.{◌≡◌, ℕ, ◌^◌, ◌<◌, true, eqb, List, [], ◌∷◌, ◌++◌, length, sym, refl, ap, ◌∙◌, subst, ⊎_elim, arith}
 use lib.ListN.{length-replicate}
 use Rattle.std.specs.List.{All}
 use Rattle.std.proofs.lemmas.List.Elements.{All-from_recursion, All-nil, All-cons, All-append, All-map, All-weaker}
 use Rattle.refusal.specs.declared.ResultCode.{ResultCode}
 use Rattle.refusal.specs.declared.ResultCode.TheVariants.{Base, Experimental}
+use Rattle.std.proofs.lemmas.Bool.{cases_Bool}
+use Rattle.std.proofs.lemmas.Bool.Decides.{nat_tests}
+use Rattle.diameter.specs.Avps.{group}
 use Rattle.diameter.specs.Soundness.{sound}
-use Rattle.diameter.specs.Laws.{none}
+use Rattle.diameter.specs.Laws.{Sound, none}
 use Rattle.diameter.proofs.Decided.{decided}
 use Rattle.fieldset.specs.Sets.{members}
 use Rattle.dictionary.specs.Names.{code, vendor, flags, shortest}
 use Rattle.dictionary.specs.declared.known.Known.{Known}
-use Rattle.dictionary.specs.declared.known.Known.TheVariants.{UserName, FramedIpAddress, VendorSpecificApplicationId, SessionId, OriginHost, AuthSessionState, RouteRecord, DestinationRealm, ProxyInfo, DestinationHost, OriginRealm, GloballyUniqueAddress, AddressRealm, RequestedInformation, EventType, AfApplicationIdentifier, SubsReqType, ExpiryTime}
 use Rattle.request.specs.Askings.{Fault, nothing, copied, lacks}
 use Rattle.writer.specs.Bytes.{bytes32, zeros}
-use Rattle.writer.specs.Parts.{Part, parts_bytes, Encodable, SoundPart, plain, nested}
+use Rattle.writer.specs.Parts.{Part, parts_bytes, part_vendor, Encodable, SoundPart, plain, nested}
 use Rattle.writer.proofs.Written.{parts_sound, part_sound}
 use Rattle.message.specs.Fields.{field_part, field_parts}
 use Rattle.answer.specs.Faults.{copy, blank}
@@ -51,25 +53,20 @@ known_fits k =
     let s = shortest_le k in
     record { code_fits = (known_code k).0; vendor_fits = (known_code k).1; size_fits = omega arith }
 
+-- a group may be empty, and what may be told of it is nothing
+group_blank : (k : Known) → group (code k) (vendor k) ≡ true → zeros (shortest k) ≡ []
+group_blank k t = grind (arith, nat_tests)
+
+vendor_named : (k : Known) → part_vendor (known_part k) ≡ vendor k
+vendor_named k = grind (arith, nat_tests)
+
 known_sound : (k : Known) → SoundPart 3 (known_part k)
-known_sound UserName = plain refl
-known_sound FramedIpAddress = plain refl
-known_sound VendorSpecificApplicationId = nested refl none
-known_sound SessionId = plain refl
-known_sound OriginHost = plain refl
-known_sound AuthSessionState = plain refl
-known_sound RouteRecord = plain refl
-known_sound DestinationRealm = plain refl
-known_sound ProxyInfo = nested refl none
-known_sound DestinationHost = plain refl
-known_sound OriginRealm = plain refl
-known_sound GloballyUniqueAddress = nested refl none
-known_sound AddressRealm = plain refl
-known_sound RequestedInformation = plain refl
-known_sound EventType = plain refl
-known_sound AfApplicationIdentifier = plain refl
-known_sound SubsReqType = plain refl
-known_sound ExpiryTime = plain refl
+known_sound k =
+    let named = ap (group (code k)) (vendor_named k) in
+    ⊎_elim
+    (λ t. nested (named ∙ t) (subst (Sound 2) (sym (group_blank k t)) none))
+    (λ f. plain (named ∙ f))
+    (cases_Bool (group (code k) (vendor k)))
 
 fault_sound : (f : Fault) → Tellable f → All (SoundPart 4) (fault_parts f)
 fault_sound nothing t = All-nil (SoundPart 4)

@@ -4,7 +4,7 @@ ghost use Rattle.message.specs.Limits.{session_limit};
 ghost use Rattle.answer.specs.Answers.{is_protocol_error, answer_flags, session_avp, result_avp};
 
 use dictionary::known::Known;
-use message::section::{Avp, Octets, Section};
+use message::section::{Avp, KnownAvp, Octets, Section};
 use refusal::ResultCode;
 use writer::avp::AvpHead;
 use writer::writer::Writer;
@@ -69,8 +69,8 @@ impl<'m> SessionId<'m> {
         SessionId { octets }
     }
 
-    fn avp(self) -> Option<Avp<Known, Octets<'m>>>
-        ensures { ⟦<Option<Avp<Known, Octets<'m>>> as Section>⟧.bytes result ≡ session_avp self.entry.octets.now }
+    fn avp(self) -> Option<KnownAvp<'m>>
+        ensures { ⟦<Option<KnownAvp<'m>> as Section>⟧.bytes result ≡ session_avp self.entry.octets.now }
     {
         if self.octets.is_empty() {
             return None;

@@ -2,12 +2,13 @@
 ghost use Rattle.std.specs.Prelude.{◌≡◌, ℕ, ◌+◌, ◌≤◌, List, [], ◌++◌, length, take, drop, Some, None};
 ghost use Rattle.writer.specs.Bytes.{bytes32};
 ghost use Rattle.writer.specs.Avps.{avp};
-ghost use Rattle.writer.specs.Headers.{message_header};
+ghost use Rattle.writer.specs.Headers.{header_bytes};
 ghost use Rattle.writer.specs.Stores.{Appends, room};
 ghost use Rattle.message.specs.Limits.{session_limit, buffer_least};
 
 use crate::kind::AvpKind;
 use diameter::header::Header;
+use dictionary::known::Known;
 use writer::avp::{avp_size, padding};
 use writer::writer::Writer;
 
@@ -135,10 +136,13 @@ impl<K: AvpKind, D: Section> Section for Avp<K, D> {
     }
 }
 
+/// An AVP of the dictionary with bytes of ours.
+pub type KnownAvp<'a> = Avp<Known, Octets<'a>>;
+
 /// Writes a message to the front of the buffer, and says how long it is.
 pub fn write_message<S: Section>(out: &mut [u8], header: Header, body: &S) -> usize
     requires { (S.most ≤ buffer_least) × (20 + length (S.bytes body.now) ≤ length out.old) }
-    ensures bytes { take result out.new ≡ message_header header.length header.flags header.command header.application header.hop_by_hop header.end_to_end ++ S.bytes body.now }
+    ensures bytes { take result out.new ≡ header_bytes header ++ S.bytes body.now }
     ensures rest { drop result out.new ≡ drop result out.old }
     ensures size { result ≡ 20 + length (S.bytes body.now) }
 {

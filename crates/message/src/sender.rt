@@ -3,7 +3,7 @@ ghost use Rattle.std.specs.Prelude.{◌≡◌, ◌≤◌, length};
 ghost use Rattle.message.specs.Messages.{application_avp, sender_avps};
 
 use crate::origin::Origin;
-use crate::section::{Avp, Octets, Section};
+use crate::section::{Avp, KnownAvp, Octets, Section};
 use dictionary::known::Known;
 use writer::writer::Writer;
 
@@ -37,10 +37,7 @@ impl Section for ApplicationId {
 pub struct Sender<'a>(pub Origin<'a>);
 
 /// An Auth-Session-State, an Origin-Host and an Origin-Realm.
-type SenderAvps<'a> = (
-    Avp<Known, u32>,
-    (Avp<Known, Octets<'a>>, Avp<Known, Octets<'a>>),
-);
+type SenderAvps<'a> = (Avp<Known, u32>, (KnownAvp<'a>, KnownAvp<'a>));
 
 impl<'a> Sender<'a> {
     fn avps(self) -> SenderAvps<'a>

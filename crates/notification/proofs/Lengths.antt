@@ -1,11 +1,12 @@
 -- How long a notification is.
-use Rattle.std.proofs.Common.{◌≡◌, ℕ, suc, ◌+◌, ◌^◌, ◌<◌, ◌≤◌, Bool, true, false, cond, List, [], ◌∷◌, ◌++◌, length, decimal, refl, ap, ◌∙◌, arith, length-append}
+use Rattle.std.proofs.Common.{◌≡◌, ℕ, ◌+◌, ◌^◌, ◌<◌, ◌≤◌, Bool, true, false, cond, List, [], ◌∷◌, ◌++◌, length, decimal, refl, ap, ◌∙◌, arith, length-append}
 use Rattle.std.proofs.lemmas.Fmt.{length-decimal-le}
 use Rattle.dictionary.specs.Addresses.{Address}
 use Rattle.writer.specs.Bytes.{bytes32}
 use Rattle.writer.specs.Avps.{avp}
 use Rattle.writer.specs.Parts.{part_bytes}
 use Rattle.writer.proofs.Avps.{length_avp, avp_size_whole}
+use Rattle.writer.proofs.Written.{length_message}
 use Rattle.message.specs.Fields.{field_code, field_vendor, field_flags, field_part, field_size}
 use Rattle.message.specs.Messages.{application_avp, sender_avps}
 use Rattle.message.proofs.Parts.{length_sender}
@@ -69,13 +70,10 @@ length_body n =
     + (length_peer n.peer_host n.peer_realm i
     + (length_event n.event n.address i + (length_avp 504 0xC0 10415 n.name i + length_told n.event n.value i))))))
 
-suc20 : (n : ℕ) → suc (suc (suc (suc (suc (suc (suc (suc (suc (suc (suc (suc (suc (suc (suc (suc (suc (suc (suc (suc n))))))))))))))))))) ≡ 20 + n
-suc20 n = omega arith
-
 -- the header has 20 bytes
 pub length_whole : (n : Notification) → length (notification_bytes n) ≡ 20 + length (notification_body n)
 unfolding notification_bytes
-length_whole n = suc20 (length (notification_body n))
+length_whole n = length_message (20 + length (notification_body n)) 0xC0 309 16777231 n.serial n.serial (notification_body n)
 
 pub length_notification : (n : Notification) → length (notification_bytes n) ≡ 20 + body_size n
 length_notification n = length_whole n ∙ ap (λ (k : ℕ). 20 + k) (length_body n)

@@ -11,7 +11,7 @@ use dictionary::address::AddressView;
 use dictionary::known::Known;
 use fieldset::Field;
 use message::Origin;
-use message::section::{Avp, Octets, Section};
+use message::section::{Avp, KnownAvp, Octets, Section};
 use writer::decimal::decimal_size;
 use writer::writer::Writer;
 
@@ -41,16 +41,13 @@ impl Section for SessionText<'_> {
     }
 }
 
-/// An AVP of the dictionary with bytes of ours.
-pub(crate) type Named<'a> = Avp<Known, Octets<'a>>;
-
 /// A Globally-Unique-Address: the IP address, then the realm.
-pub(crate) type AddressAvp<'a> = Avp<Known, (Named<'a>, Named<'a>)>;
+pub(crate) type AddressAvp<'a> = Avp<Known, (KnownAvp<'a>, KnownAvp<'a>)>;
 
 /// The data of a Globally-Unique-Address.
-fn address_data<'a>(address: AddressView<'a>) -> (Named<'a>, Named<'a>)
+fn address_data<'a>(address: AddressView<'a>) -> (KnownAvp<'a>, KnownAvp<'a>)
     requires { (length address.ip.now ≤ address_limit) × (length address.realm.now ≤ place_limit) }
-    ensures { ⟦<(Named<'a>, Named<'a>) as Section>⟧.bytes result ≡ address_data (address_of address.entry) }
+    ensures { ⟦<(KnownAvp<'a>, KnownAvp<'a>) as Section>⟧.bytes result ≡ address_data (address_of address.entry) }
 {
     let ip = Avp {
         kind: Known::FramedIpAddress,
@@ -111,8 +108,8 @@ impl<'a> Notice<'a> {
 
 impl<'n, 'p> Recipient<'n, 'p> {
     /// The Destination-Host and the Destination-Realm.
-    pub(crate) fn peer_avps(self) -> (Named<'p>, Named<'p>)
-        ensures { ⟦<(Named<'p>, Named<'p>) as Section>⟧.bytes result ≡ peer_avps self.entry.peer.host.now self.entry.peer.realm.now }
+    pub(crate) fn peer_avps(self) -> (KnownAvp<'p>, KnownAvp<'p>)
+        ensures { ⟦<(KnownAvp<'p>, KnownAvp<'p>) as Section>⟧.bytes result ≡ peer_avps self.entry.peer.host.now self.entry.peer.realm.now }
     {
         let host = Avp {
             kind: Known::DestinationHost,
@@ -126,8 +123,8 @@ impl<'n, 'p> Recipient<'n, 'p> {
     }
 
     /// The name of the application function.
-    pub(crate) fn name_avp(self) -> Named<'n>
-        ensures { ⟦<Named<'n> as Section>⟧.bytes result ≡ avp 504 0xC0 10415 self.entry.name.now }
+    pub(crate) fn name_avp(self) -> KnownAvp<'n>
+        ensures { ⟦<KnownAvp<'n> as Section>⟧.bytes result ≡ avp 504 0xC0 10415 self.entry.name.now }
     {
         Avp {
             kind: Known::AfApplicationIdentifier,

@@ -10,6 +10,7 @@ use Rattle.diameter.proofs.Decided.{decided}
 use Rattle.diameter.proofs.Pieces.{step_is, stands_is, payload_is, rest_is}
 use Rattle.diameter.proofs.Turns.{avps_more}
 use Rattle.diameter.proofs.Walks.{sound_none, sound_plain, sound_group}
+use Rattle.writer.specs.Headers.{message_header}
 use Rattle.writer.specs.Parts.{Part, part_bytes, parts_bytes, parts_size, part_vendor, part_avp, Encodable, SoundPart, plain, nested}
 use Rattle.writer.specs.Laws.{ReadBackAt, PlainKeepsSound, GroupKeepsSound, PartsSound, PartsReadBack, HeaderReadBack}
 use Rattle.writer.proofs.Numbers.{be24_bytes24, be32_bytes32}
@@ -105,3 +106,7 @@ header_read_back size flags command application hop end rest s c a h e = (
   },
   refl,
 )
+
+-- a header has 20 bytes
+pub length_message : (size flags command application hop end : ℕ) (rest : List ℕ) → length (message_header size flags command application hop end ++ rest) ≡ 20 + length rest
+length_message size flags command application hop end rest = omega arith

@@ -16,6 +16,7 @@ pub struct AvpHead {
 }
 
 /// How long the header of an AVP with these flags is.
+// No method of `AvpHead`: no plainer, since the header that an answer copies was read and is no head of ours.
 pub fn head_size(flags: u8) -> usize
     ensures { result ≡ head_size flags }
 {

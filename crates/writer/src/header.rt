@@ -1,5 +1,5 @@
 //! The header of a message.
-ghost use Rattle.writer.specs.Headers.{message_header};
+ghost use Rattle.writer.specs.Headers.{header_bytes};
 ghost use Rattle.writer.specs.Stores.{Appends, room};
 
 use crate::writer::Writer;
@@ -9,7 +9,7 @@ impl Writer<'_> {
     /// The header of a message, in version 1 whatever `header.version` says.
     pub fn message_header(&mut self, header: Header)
         requires { room 20 self.old }
-        ensures { Appends self.old (message_header header.length header.flags header.command header.application header.hop_by_hop header.end_to_end) self.new }
+        ensures { Appends self.old (header_bytes header) self.new }
     {
         self.byte(1);
         self.u24(header.length);

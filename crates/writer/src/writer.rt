@@ -4,6 +4,7 @@ ghost use Rattle.writer.specs.Bytes.{bytes24, bytes32, zeros};
 ghost use Rattle.writer.specs.Stores.{Appends, Begins, room};
 
 /// A buffer, written up to `end`.
+// No cursor and no `Write` of std: these answer an `io::Result`, and a store here is owed its room, which says that the end lies inside.
 #[derive(Drop)]
 pub struct Writer<'a> {
     buffer: &'a mut [u8],
@@ -57,6 +58,7 @@ impl<'a> Writer<'a> {
     }
 
     /// A number in three bytes.
+    // Not one function with `u32` over the count of bytes: no plainer, since each is one line over its own definition.
     pub(crate) fn u24(&mut self, x: u32)
         requires { room 3 self.old }
         ensures { Appends self.old (bytes24 x) self.new }

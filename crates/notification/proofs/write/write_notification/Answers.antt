@@ -1,6 +1,6 @@
 use Rattle.std.proofs.Common.{◌≡◌, ℕ, ◌+◌, ◌++◌, length, sym, ap, ◌∙◌, arith}
 use Rattle.writer.specs.Avps.{avp}
-use Rattle.writer.specs.Headers.{message_header}
+use Rattle.writer.specs.Headers.{message_header, header_bytes}
 use Rattle.message.specs.Messages.{application_avp, sender_avps}
 use Rattle.notification.specs.Notifications.{Notification, session_of, notification_body, notification_bytes}
 use Rattle.notification.specs.Notices.{notification_of}
@@ -18,7 +18,7 @@ returns c =
     record {
       bytes =
           c.write_message.ensures.bytes
-          ∙ (λ i. let h = c.notification_header-header.ensures i in message_header h.length h.flags h.command h.application h.hop_by_hop h.end_to_end ++ body i)
+          ∙ (λ i. header_bytes (c.notification_header-header.ensures i) ++ body i)
           ∙ ap (λ (k : ℕ). message_header k 0xC0 309 16777231 n.serial n.serial ++ notification_body n) size;
       rest = c.write_message.ensures.rest;
       size = c.write_message.ensures.size ∙ ap (λ (k : ℕ). 20 + k) (ap length body) ∙ sym (length_whole n);

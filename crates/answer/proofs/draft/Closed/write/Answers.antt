@@ -1,6 +1,6 @@
 use Rattle.std.proofs.Common.{◌≡◌, ℕ, ◌+◌, List, ◌++◌, length, sym, ap, ◌∙◌, arith}
 use Rattle.diameter.specs.declared.header.Header.{Header}
-use Rattle.writer.specs.Headers.{message_header}
+use Rattle.writer.specs.Headers.{message_header, header_bytes}
 use Rattle.answer.specs.Answers.{Answer, answer_flags, answer_body, answer_bytes}
 use Rattle.answer.specs.Drafts.{closed_of}
 use Rattle.answer.proofs.Lengths.{length_whole}
@@ -23,7 +23,7 @@ returns g c =
     record {
       bytes =
           c.write_message.ensures.bytes
-          ∙ (λ i. let h = c.answer_header-header.ensures i in message_header h.length h.flags h.command h.application h.hop_by_hop h.end_to_end ++ c.body.ensures i)
+          ∙ (λ i. header_bytes (c.answer_header-header.ensures i) ++ c.body.ensures i)
           ∙ ap (λ (k : ℕ). message_header k (answer_flags r.flags a.result) r.command r.application r.hop_by_hop r.end_to_end ++ answer_body a) size;
       rest = c.write_message.ensures.rest;
       size = written ∙ sym (length_whole a);
