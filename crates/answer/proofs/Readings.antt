@@ -4,11 +4,12 @@ use mathlib.Core.List.{map-append}
 use lib.ListN.{length-map}
 use Rattle.std.specs.List.{AllByRecursion}
 use Rattle.std.proofs.lemmas.List.Elements.{filter-append}
+use Rattle.std.proofs.lemmas.List.Sums.{length-filter}
 use Rattle.std.proofs.lemmas.Bool.Decides.{nat_tests}
 use Rattle.refusal.specs.declared.ResultCode.{ResultCode}
 use Rattle.refusal.specs.declared.ResultCode.TheVariants.{Base, Experimental}
 use Rattle.diameter.specs.Headers.{body}
-use Rattle.diameter.specs.Lists.{Avp, avps, named, count_such, first_such}
+use Rattle.diameter.specs.Lists.{Avp, avps, named, first_such}
 use Rattle.fieldset.specs.Sets.{members}
 use Rattle.fieldset.proofs.Laws.{ones_count}
 use Rattle.fieldset.proofs.Members.{members_count}
@@ -125,17 +126,9 @@ fields_shown a b =
     ∙ (λ i. fields_kept a.values (members 10 a.shown) (members_below 10 a.shown) i ++ fault_none a.fault i)
     ∙ append-nil (map (λ k. part_avp (field_part k (a.values k))) (members 10 a.shown))
 
-counted : (x : Avp) (l : List Avp) (n : ℕ) (b : Bool) → n ≡ length l → cond b 1 0 + n ≡ length (cond b (x ∷ l) l)
-counted x l n true e = omega arith
-counted x l n false e = omega arith
-
-count_kept : (p : Avp → Bool) (l : List Avp) → count_such p l ≡ length (filter p l)
-count_kept p [] = refl
-count_kept p (a ∷ l) = counted a (filter p l) (count_such p l) (p a) (count_kept p l)
-
 pub fields_counted : FieldsCounted
 fields_counted a b h =
-    count_kept is_field (avps (body (answer_bytes a)))
+    sym (length-filter is_field (avps (body (answer_bytes a))))
     ∙ ap length (fields_shown a b)
     ∙ length-map (members 10 a.shown) (λ k. part_avp (field_part k (a.values k)))
     ∙ members_count 10 a.shown

@@ -1,8 +1,8 @@
 -- One turn of a loop over AVPs: what a split says of the list of AVPs and of soundness.
-use Rattle.std.proofs.Common.{◌≡◌, ℕ, zero, suc, ◌+◌, ◌-◌, ◌<◌, ◌≤◌, Bool, true, false, cond, ◌&&◌, List, [], ◌∷◌, length, drop, Some, sym, refl, ap, ◌∙◌, arith}
+use Rattle.std.proofs.Common.{◌≡◌, ℕ, zero, suc, ◌-◌, ◌<◌, ◌≤◌, Bool, true, false, cond, ◌&&◌, List, [], ◌∷◌, length, drop, sym, refl, ap, ◌∙◌, arith}
 use Rattle.std.proofs.lemmas.Bool.{true≢false}
 use Rattle.diameter.specs.Avps.{code, vendor, stands, step, group}
-use Rattle.diameter.specs.Lists.{Avp, front, cut, avps, count_such, first_such}
+use Rattle.diameter.specs.Lists.{Avp, front, cut, avps}
 use Rattle.diameter.specs.Soundness.{sound}
 use Rattle.diameter.specs.Views.{Splits, avp_of}
 use Rattle.diameter.specs.declared.avp.AvpView.{AvpView}
@@ -50,14 +50,3 @@ module _ {v : AvpView} {rest xs : List ℕ} (s : Splits v rest xs) where
       let k : suc n - 1 ≡ n = omega arith in
       sound_group n xs s.there (name_is _ g)
       ∙ (λ i. sym (e ∙ (λ j. sound (k j) (s.view j).payload)) i && sound (suc n) (sym s.rest_is i))
-
-  module _ (p : Avp → Bool) where
-    pub first_hit : true ≡ p (avp_of v) → Some (avp_of v) ≡ first_such p (avps xs)
-    first_hit t = ap (λ b. cond b (Some (avp_of v)) (first_such p (avps rest))) t ∙ sym (ap (first_such p) split_more)
-
-    pub first_miss : false ≡ p (avp_of v) → first_such p (avps rest) ≡ first_such p (avps xs)
-    first_miss t = ap (λ b. cond b (Some (avp_of v)) (first_such p (avps rest))) t ∙ sym (ap (first_such p) split_more)
-
-    -- b says whether the AVP at the front passes
-    pub count_turn : (b : Bool) → b ≡ p (avp_of v) → cond b 1 0 + count_such p (avps rest) ≡ count_such p (avps xs)
-    count_turn b t = ap (λ c. cond c 1 0 + count_such p (avps rest)) t ∙ sym (ap (count_such p) split_more)

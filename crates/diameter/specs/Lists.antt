@@ -1,11 +1,12 @@
 -- The AVPs of a sequence, as a list of values.
 --     front xs          the AVP at the front of xs
 --     avps xs           the AVPs of xs, one after the other, up to the end or to the first place where none stands
---     first_such p as   the first AVP that passes the test p
---     count_such p as   how many pass it
---     only_such p as    the one that passes it, where there is exactly one
+--     first_such p l    the first AVP that passes the test p
+--     count_such p l    how many pass it
+--     only_such p l     the one that passes it, where there is exactly one
 --     named c v         the test for code c and vendor v
-use Rattle.std.specs.Prelude.{ℕ, zero, suc, ◌+◌, ◌-◌, Bool, cond, ◌&&◌, List, [], ◌∷◌, take, Some, None, Option, ◌==◌}
+use Rattle.std.specs.Prelude.{ℕ, zero, suc, ◌-◌, Bool, cond, ◌&&◌, List, [], ◌∷◌, take, count_by, None, Option, ◌==◌}
+use Rattle.std.specs.List.{find}
 use Rattle.diameter.specs.Avps as at_front
 
 -- the octets are those of the whole AVP, from its header to its padding
@@ -36,15 +37,13 @@ abbrev pub avps : List ℕ → List Avp
 avps xs = cut 0 xs
 
 abbrev pub first_such : (Avp → Bool) → List Avp → Option Avp
-first_such p [] = None
-first_such p (a ∷ later) = cond (p a) (Some a) (first_such p later)
+first_such p l = find p l
 
 abbrev pub count_such : (Avp → Bool) → List Avp → ℕ
-count_such p [] = 0
-count_such p (a ∷ later) = cond (p a) 1 0 + count_such p later
+count_such p l = count_by p l
 
 abbrev pub only_such : (Avp → Bool) → List Avp → Option Avp
-only_such p later = cond (count_such p later == 1) (first_such p later) None
+only_such p l = cond (count_such p l == 1) (first_such p l) None
 
 abbrev pub named : ℕ → ℕ → Avp → Bool
 named c v a = a.code == c && a.vendor == v

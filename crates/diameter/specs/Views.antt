@@ -2,7 +2,8 @@
 --     avp_of v           the AVP that the view v shows
 --     found r            the same of an optional view
 --     Splits v rest xs   v shows the AVP at the front of xs, and rest is what follows it
-use Rattle.std.specs.Prelude.{◌≡◌, ℕ, ◌<◌, true, List, length, drop, Option}
+--     TakesFirst r rest xs   r is the AVP at the front of xs and rest what follows it, or none where no AVP stands, and rest is xs
+use Rattle.std.specs.Prelude.{◌≡◌, ℕ, ◌<◌, true, false, List, length, drop, Option, MatchOption}
 use Rattle.std.specs.Option.{option_map}
 use Rattle.diameter.specs.Avps.{stands, step}
 use Rattle.diameter.specs.Lists.{Avp, front}
@@ -19,3 +20,6 @@ pub record Splits (v : AvpView) (rest xs : List ℕ) : Type 0 where
   pub view : avp_of v ≡ front xs
   pub rest_is : rest ≡ drop (step xs) xs
   pub shorter : length rest < length xs
+
+abbrev pub TakesFirst : Option AvpView → List ℕ → List ℕ → Type 0
+TakesFirst r rest xs = MatchOption r ((stands xs ≡ false) × (rest ≡ xs)) (λ v. Splits v rest xs)

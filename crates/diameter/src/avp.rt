@@ -31,7 +31,7 @@ impl AvpView<'_> {
     pub fn is_mandatory(self) -> bool
         ensures { result ≡ flagged 0x40 self.entry.flags }
     {
-        self.flags & AvpView::MANDATORY != 0
+        self.flags & Self::MANDATORY != 0
     }
 }
 
@@ -57,7 +57,7 @@ fn read_span(bytes: &[u8]) -> Option<Span>
     let has_vendor = flags & AvpView::VENDOR != 0;
     let end = u24_at(bytes, 5) as usize;
     let start = if has_vendor { 12 } else { 8 };
-    let next = (end + 3) / 4 * 4;
+    let next = end.next_multiple_of(4);
     if end < start || bytes.len() < next {
         return None;
     }
@@ -76,23 +76,14 @@ fn read_span(bytes: &[u8]) -> Option<Span>
 pub fn split_avp<'a>(bytes: &'a [u8]) -> Option<(AvpView<'a>, &'a [u8])>
     ensures { MatchOption result (stands bytes.now ≡ false) (λ p. Splits p.0 p.1.now bytes.now) }
 {
-    let Span {
-        code,
-        vendor,
-        flags,
-        start,
-        end,
-        next,
-    } = read_span(bytes)?;
-    let payload = &bytes[start..end];
-    let octets = &bytes[0..next];
-    let rest = &bytes[next..];
+    let span = read_span(bytes)?;
+    let (octets, rest) = bytes.split_at(span.next);
     Some((
         AvpView {
-            code,
-            vendor,
-            flags,
-            payload,
+            code: span.code,
+            vendor: span.vendor,
+            flags: span.flags,
+            payload: &bytes[span.start..span.end],
             octets,
         },
         rest,
@@ -103,9 +94,8 @@ pub fn split_avp<'a>(bytes: &'a [u8]) -> Option<(AvpView<'a>, &'a [u8])>
 pub fn is_group(code: u32, vendor: u32) -> bool
     ensures { result ≡ group code vendor }
 {
-    match (vendor, code) {
-        (0, 260 | 279 | 284 | 297) => true,
-        (13019, 300 | 303 | 304 | 306 | 350 | 357 | 358) => true,
-        _ => false,
-    }
+    matches!(
+        (vendor, code),
+        (0, 260 | 279 | 284 | 297) | (13019, 300 | 303 | 304 | 306 | 350 | 357 | 358)
+    )
 }

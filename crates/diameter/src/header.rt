@@ -29,25 +29,15 @@ impl Header {
     pub fn is_request(self) -> bool
         ensures { result ≡ flagged 0x80 self.flags }
     {
-        self.flags & Header::REQUEST != 0
+        self.flags & Self::REQUEST != 0
     }
-}
-
-/// The bytes after the header.
-fn after_header(message: &[u8]) -> &[u8]
-    requires { 20 ≤ length message.now }
-    ensures { result.now ≡ body message.now }
-{
-    &message[Header::SIZE..]
 }
 
 /// The header of a message and the bytes of its AVPs, or none below 20 bytes.
 pub fn split_header(message: &[u8]) -> Option<(Header, &[u8])>
     ensures { MatchOption result (length message.now < 20) (λ p. (20 ≤ length message.now) × (p.0 ≡ header_of message.now) × (p.1.now ≡ body message.now)) }
 {
-    if message.len() < Header::SIZE {
-        return None;
-    }
+    let avps = message.get(Header::SIZE..)?;
     let header = Header {
         version: message[0],
         length: u24_at(message, 1),
@@ -57,15 +47,12 @@ pub fn split_header(message: &[u8]) -> Option<(Header, &[u8])>
         hop_by_hop: u32_at(message, 12),
         end_to_end: u32_at(message, 16),
     };
-    Some((header, after_header(message)))
+    Some((header, avps))
 }
 
 /// The bytes of a message's AVPs: those after the header, none where there are no more.
 pub fn body_of(message: &[u8]) -> &[u8]
     ensures { result.now ≡ body message.now }
 {
-    if message.len() < Header::SIZE {
-        return &message[0..0];
-    }
-    after_header(message)
+    message.get(Header::SIZE..).unwrap_or(&[])
 }

@@ -2,6 +2,7 @@
 #![tactic(auto)]
 
 pub mod avp;
+pub mod avps;
 mod bytes;
 pub mod header;
 pub mod laws;

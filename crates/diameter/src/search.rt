@@ -1,11 +1,13 @@
-//! Searches over the AVPs of a sequence: one loop for the first AVP that passes a test, one for how many do.
+//! Searches over the AVPs of a sequence: the first AVP that passes a test, and how many do.
 ghost use Rattle.std.specs.Prelude.{◌≡◌, Bool};
 ghost use Rattle.diameter.specs.Lists.{Avp, avps, first_such, count_such, only_such, named};
 ghost use Rattle.diameter.specs.Views.{avp_of, found};
 
-use crate::avp::{AvpView, split_avp};
+use crate::avp::AvpView;
+use crate::avps::Avps;
 
 /// A test of one AVP.
+// Not a closure: that would have to be required callable, and its meaning be a premise of each promise below. A test says both itself.
 pub trait AvpTest {
     ghost holds: { Self → Avp → Bool };
 
@@ -17,29 +19,14 @@ pub trait AvpTest {
 pub fn first_such<'a, P: AvpTest>(test: &P, bytes: &'a [u8]) -> Option<AvpView<'a>>
     ensures { found result ≡ first_such (P.holds test.now) (avps bytes.now) }
 {
-    let mut rest = bytes;
-    while let Some((avp, after)) = split_avp(rest) {
-        if test.passes(avp) {
-            return Some(avp);
-        }
-        rest = after;
-    }
-    None
+    Avps::new(bytes).find(|avp| test.passes(*avp))
 }
 
 /// How many AVPs pass.
 pub fn count_such<P: AvpTest>(test: &P, bytes: &[u8]) -> usize
     ensures { result ≡ count_such (P.holds test.now) (avps bytes.now) }
 {
-    let mut count = 0;
-    let mut left = bytes;
-    while let Some((avp, after)) = split_avp(left) {
-        if test.passes(avp) {
-            count += 1;
-        }
-        left = after;
-    }
-    count
+    Avps::new(bytes).filter(|avp| test.passes(*avp)).count()
 }
 
 /// The AVP that passes, where it is the only one.

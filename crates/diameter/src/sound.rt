@@ -2,22 +2,21 @@
 ghost use Rattle.std.specs.Prelude.{◌≡◌};
 ghost use Rattle.diameter.specs.Soundness.{sound};
 
-use crate::avp::{is_group, split_avp};
+use crate::avp::is_group;
+use crate::avps::Avps;
 
 /// Whether the bytes are all AVPs, with groups that nest at most `levels` deep.
 pub fn is_sound(bytes: &[u8], levels: u8) -> bool
     ensures { result ≡ sound levels bytes.now }
 {
-    let mut rest = bytes;
-    while let Some((avp, after)) = split_avp(rest) {
-        if is_group(avp.code, avp.vendor) {
-            if levels == 0 || !is_sound(avp.payload, levels - 1) {
-                return false;
-            }
+    let mut avps = Avps::new(bytes);
+    // Not a `for` over `&mut avps`: what such a loop leaves in `avps` is not proved, and at the end that decides.
+    while let Some(avp) = avps.next() {
+        if is_group(avp.code, avp.vendor) && (levels == 0 || !is_sound(avp.payload, levels - 1)) {
+            return false;
         }
-        rest = after;
     }
-    rest.is_empty()
+    avps.rest().is_empty()
 }
 
 #[cfg(test)]

@@ -1,14 +1,12 @@
-use Rattle.std.proofs.Common.{◌≡◌, ◌-◌, take, drop, ◌∙◌, arith, length-drop, length-take}
-use Rattle.std.proofs.lemmas.List.{take_rest}
+use Rattle.std.proofs.Common.{◌≡◌, ◌-◌, take, drop, ◌∙◌, arith}
 use Rattle.diameter.specs.Avps.{step}
 use Rattle.diameter.proofs.avp.split_avp.Goals as goal
 
 pub returns : goal.returns
 returns c =
-    let r = c.in_ok-code.ensures in
+    let r = c.in_ok-span.ensures in
     let xs = c.args.bytes.now in
-    let s = c.in_ok-code.field-0 in
-    let n : s.next - 0 ≡ step xs = omega (arith, r.next) in
+    let octets : c.split_at.result.0.now ≡ take (step xs) xs = c.split_at.ensures.front ∙ (λ i. take (r.next i) xs) in
     record {
       there = r.there;
       view =
@@ -17,8 +15,8 @@ returns c =
             vendor = r.vendor i;
             flags = r.flags i;
             payload = take (r.end i - r.start i) (drop (r.start i) xs);
-            octets = take (n i) xs;
+            octets = octets i;
           };
-      rest_is = take_rest xs s.next ∙ (λ i. drop (r.next i) xs);
-      shorter = simp (length-take, length-drop) (omega (arith, r.some, r.inside));
+      rest_is = c.split_at.ensures.back ∙ (λ i. drop (r.next i) xs);
+      shorter = omega (arith, r.some, r.inside, c.split_at.ensures.back_len);
     }

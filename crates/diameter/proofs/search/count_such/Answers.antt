@@ -1,21 +1,17 @@
-use Rattle.std.proofs.Common.{true, false, ap, arith}
-use Rattle.diameter.specs.Lists.{count_such}
-use Rattle.diameter.proofs.Turns.{count_turn, avps_stop}
+use Rattle.std.proofs.Common.{◌∙◌, rules}
+use borrow.Author.Tests.{tests}
+use Rattle.std.proofs.lemmas.Iterator.Consumers.{YieldsList-at, YieldsList-from_filter, count_from_yields_List}
+use Rattle.std.proofs.lemmas.List.Sums.{length-filter}
+use Rattle.diameter.specs.Lists.{avps}
+use Rattle.diameter.proofs.Yielded.{avps_yielded}
 use Rattle.diameter.proofs.search.count_such.Goals as goal
-
-pub loop-avp-preserved-then-passes : goal.loop-avp-preserved-then-passes
-loop-avp-preserved-then-passes g c =
-    let s = c.in-Some.ensures in
-    let e = count_turn s (g.P.AvpTest.holds c.args.test.now) true c.if-passes.ensures in
-    (omega arith, omega (arith, s.shorter))
-
-pub loop-avp-preserved : goal.loop-avp-preserved
-loop-avp-preserved g c =
-    let s = c.in-Some.ensures in
-    let e = count_turn s (g.P.AvpTest.holds c.args.test.now) false c.if-passes.ensures in
-    (omega arith, omega (arith, s.shorter))
 
 pub returns : goal.returns
 returns g c =
-    let e = ap (count_such (g.P.AvpTest.holds c.args.test.now)) (avps_stop c.loop-avp.left.now c.in_default.ensures) in
-    omega arith
+    let p = g.P.AvpTest.holds c.args.test.now in
+    count_from_yields_List c.filter.result c.count.result c.count.ensures.ran
+    (YieldsList-from_filter _ p
+    (YieldsList-at c.filter.ensures.source (avps_yielded c.new.result c.args.bytes.now c.new.ensures))
+    c.filter.ensures.closure
+    (λ x b q k. search (rules, tests)))
+    ∙ length-filter p (avps c.args.bytes.now)

@@ -1,14 +1,9 @@
-use Rattle.std.proofs.Common.{sym, ap, ◌∙◌}
-use Rattle.diameter.specs.Lists.{first_such}
-use Rattle.diameter.proofs.Turns.{first_hit, first_miss, avps_stop}
+use Rattle.std.proofs.Common.{rules}
+use borrow.Author.Tests.{tests}
+use Rattle.std.proofs.lemmas.Iterator.Search.{find_from_yields_List}
+use Rattle.diameter.proofs.Yielded.{avps_yielded}
 use Rattle.diameter.proofs.search.first_such.Goals as goal
-
-pub returns-then-passes : goal.returns-then-passes
-returns-then-passes g c = first_hit c.in-Some.ensures (g.P.AvpTest.holds c.args.test.now) c.if-passes.ensures ∙ c.loop-avp.invariant
-
-pub loop-avp-preserved : goal.loop-avp-preserved
-loop-avp-preserved g c = first_miss c.in-Some.ensures (g.P.AvpTest.holds c.args.test.now) c.if-passes.ensures ∙ c.loop-avp.invariant
 
 pub returns : goal.returns
 returns g c =
-    sym (ap (first_such (g.P.AvpTest.holds c.args.test.now)) (avps_stop c.loop-avp.rest.now c.in_default.ensures)) ∙ c.loop-avp.invariant
+    find_from_yields_List (g.P.AvpTest.holds c.args.test.now) c.find.new.self _ c.find.result c.find.ensures.ran (avps_yielded c.new.result c.args.bytes.now c.new.ensures) (λ x b q k. search (rules, tests))
