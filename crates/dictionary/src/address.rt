@@ -2,7 +2,8 @@
 ghost use Rattle.std.specs.Prelude.{◌≡◌};
 ghost use Rattle.dictionary.specs.Addresses.{address_in, address_found};
 
-use diameter::search::{Named, only_such};
+use crate::known::Known;
+use diameter::search::only_such;
 
 /// An address that borrows the bytes of a message: an IP address of four bytes, and the realm that it is unique in.
 #[derive(Clone, Copy)]
@@ -15,19 +16,11 @@ pub struct AddressView<'a> {
 pub fn read_address<'a>(payload: &'a [u8]) -> Option<AddressView<'a>>
     ensures { address_found result ≡ address_in payload.now }
 {
-    let ip = only_such(&Named { code: 8, vendor: 0 }, payload)?;
-    let realm = only_such(
-        &Named {
-            code: 301,
-            vendor: 13019,
-        },
-        payload,
-    )?;
-    match (ip.payload.len(), realm.payload.len()) {
-        (4, 1..=32) => Some(AddressView {
-            ip: ip.payload,
-            realm: realm.payload,
-        }),
-        _ => None,
-    }
+    let ip = only_such(&Known::FramedIpAddress, payload)?;
+    let realm = only_such(&Known::AddressRealm, payload)?;
+    let is_right = matches!((ip.payload.len(), realm.payload.len()), (4, 1..=32));
+    is_right.then_some(AddressView {
+        ip: ip.payload,
+        realm: realm.payload,
+    })
 }

@@ -1,7 +1,11 @@
 //! The known AVPs by name.
-ghost use Rattle.std.specs.Prelude.{◌≡◌};
-ghost use Rattle.dictionary.specs.Names.{code, vendor, flags, shortest, index, repeats};
+ghost use Rattle.std.specs.Prelude.{◌≡◌, ◌<◌};
+ghost use Rattle.dictionary.specs.Names.{known, code, vendor, flags, shortest, index, repeats};
 ghost use Rattle.dictionary.specs.Laws.{NamesAgree};
+ghost use Rattle.diameter.specs.Lists.{named};
+
+use diameter::avp::AvpView;
+use diameter::search::AvpTest;
 
 /// An AVP that a request may hold.
 #[derive(Clone, Copy, PartialEq, Eq, Debug)]
@@ -27,6 +31,37 @@ pub enum Known {
 }
 
 impl Known {
+    /// How many there are.
+    pub const COUNT: usize = 18;
+
+    /// The known AVP of this code and this vendor, where there is one.
+    pub fn named(code: u32, vendor: u32) -> Option<Known>
+        ensures { result ≡ known code vendor }
+    {
+        let known = match (vendor, code) {
+            (0, 1) => Known::UserName,
+            (0, 8) => Known::FramedIpAddress,
+            (0, 260) => Known::VendorSpecificApplicationId,
+            (0, 263) => Known::SessionId,
+            (0, 264) => Known::OriginHost,
+            (0, 277) => Known::AuthSessionState,
+            (0, 282) => Known::RouteRecord,
+            (0, 283) => Known::DestinationRealm,
+            (0, 284) => Known::ProxyInfo,
+            (0, 293) => Known::DestinationHost,
+            (0, 296) => Known::OriginRealm,
+            (13019, 300) => Known::GloballyUniqueAddress,
+            (13019, 301) => Known::AddressRealm,
+            (13019, 353) => Known::RequestedInformation,
+            (13019, 354) => Known::EventType,
+            (10415, 504) => Known::AfApplicationIdentifier,
+            (10415, 705) => Known::SubsReqType,
+            (10415, 709) => Known::ExpiryTime,
+            _ => return None,
+        };
+        Some(known)
+    }
+
     pub fn code(self) -> u32
         ensures { result ≡ code self }
     {
@@ -98,7 +133,8 @@ impl Known {
 
     /// Its place in the dictionary, counted from 0.
     pub fn index(self) -> u32
-        ensures { result ≡ index self }
+        ensures is { result ≡ index self }
+        ensures within { result < 18 }
     {
         self as u32
     }
@@ -111,6 +147,15 @@ impl Known {
             self,
             Known::RouteRecord | Known::ProxyInfo | Known::RequestedInformation | Known::EventType
         )
+    }
+}
+
+/// As a test of AVPs it passes those of its name.
+impl AvpTest for Known {
+    ghost holds = { λ k. named (code k) (vendor k) };
+
+    fn passes(&self, avp: AvpView<'_>) -> bool {
+        avp.code == self.code() && avp.vendor == self.vendor()
     }
 }
 

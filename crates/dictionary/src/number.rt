@@ -9,32 +9,21 @@ pub type Time = u32;
 pub fn word(payload: &[u8]) -> u32
     ensures { result ≡ word payload.now }
 {
-    if payload.len() != 4 {
-        return 0;
-    }
-    u32::from_be_bytes([payload[0], payload[1], payload[2], payload[3]])
+    <[u8; 4]>::try_from(payload).map_or(0, u32::from_be_bytes)
 }
 
 /// The field that a Requested-Information asks for.
 pub fn requested_field(number: u32) -> Option<u8>
     ensures { result ≡ field_of number }
 {
-    if number <= 9 {
-        Some(number as u8)
-    } else {
-        None
-    }
+    u8::try_from(number).ok().filter(|field| *field <= 9)
 }
 
 /// The event that an Event-Type names.
 pub fn named_event(number: u32) -> Option<u8>
     ensures { result ≡ event_of number }
 {
-    if number <= 10 {
-        Some(number as u8)
-    } else {
-        None
-    }
+    u8::try_from(number).ok().filter(|event| *event <= 10)
 }
 
 /// The time that an Expiry-Time names.
