@@ -5,9 +5,10 @@
 --     other_application m   an application that we are not
 --     other_command m       a command that we do not answer
 --     unsound_avps m        the AVPs are not sound at the levels of a request
+--     command_coded c       the command of the code c, where it is one that we answer
 --     command_of m          which of the two commands it is
 --     checked m             the command of m, or the first refusal that applies
-use Rattle.std.specs.Prelude.{ℕ, ◌%◌, Bool, cond, not, ◌&&◌, ◌||◌, List, [], ◌∷◌, length, Result, ◌==◌, nat_le}
+use Rattle.std.specs.Prelude.{ℕ, ◌%◌, Bool, cond, not, ◌&&◌, ◌||◌, List, [], ◌∷◌, length, Ok, Err, Result, ◌==◌, nat_le}
 use Rattle.refusal.specs.declared.Refusal.{Refusal}
 use Rattle.refusal.specs.declared.Refusal.TheVariants.{WrongSize, NotRequest, WrongVersion, WrongApplication, WrongCommand, Unsound}
 use Rattle.refusal.specs.Verdicts.{judged}
@@ -36,6 +37,9 @@ other_command m = not (command m == 306 || command m == 308)
 -- groups may stand at levels 1 to 3
 abbrev pub unsound_avps : List ℕ → Bool
 unsound_avps m = not (sound 3 (body m))
+
+abbrev pub command_coded : ℕ → Result Command Refusal
+command_coded c = cond (c == 306) (Ok UserData) (cond (c == 308) (Ok SubscribeNotifications) (Err WrongCommand))
 
 abbrev pub command_of : List ℕ → Command
 command_of m = cond (command m == 306) UserData SubscribeNotifications

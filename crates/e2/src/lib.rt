@@ -1,9 +1,9 @@
 //! The e2 application: which messages are requests that a location repository answers.
 #![tactic(auto)]
 
-ghost use Rattle.std.specs.Prelude.{◌≡◌, true, false, if◌then◌else◌, Some, None, MatchOption, nat_eq};
+ghost use Rattle.std.specs.Prelude.{◌≡◌, true, false, MatchOption};
 ghost use Rattle.diameter.specs.Headers.{body, header_of};
-ghost use Rattle.e2.specs.Checks.{checked, mis_sized};
+ghost use Rattle.e2.specs.Checks.{checked, command_coded, mis_sized};
 
 use diameter::header::{Header, split_header};
 use diameter::sound::is_sound;
@@ -25,15 +25,17 @@ pub enum Command {
     SubscribeNotifications = 308,
 }
 
-impl Command {
+impl TryFrom<u32> for Command {
+    type Error = Refusal;
+
+    ghost try_from_gives = { λ code r. r ≡ command_coded code };
+
     /// The command of this code, where it is one that we answer.
-    fn from_code(code: u32) -> Option<Command>
-        ensures { result ≡ (if nat_eq code 306 then Some Command.UserData else (if nat_eq code 308 then Some Command.SubscribeNotifications else None)) }
-    {
+    fn try_from(code: u32) -> Result<Command, Refusal> {
         match code {
-            306 => Some(Command::UserData),
-            308 => Some(Command::SubscribeNotifications),
-            _ => None,
+            306 => Ok(Command::UserData),
+            308 => Ok(Command::SubscribeNotifications),
+            _ => Err(Refusal::WrongCommand),
         }
     }
 }
@@ -43,23 +45,16 @@ fn split_sized(message: &[u8]) -> Option<(Header, &[u8])>
     ensures { MatchOption result (mis_sized message.now ≡ true) (λ p. (mis_sized message.now ≡ false) × (p.0 ≡ header_of message.now) × (p.1.now ≡ body message.now)) }
 {
     let size = message.len();
-    if size > REQUEST_SIZE || size % 4 != 0 {
-        return None;
-    }
-    let (header, avps) = split_header(message)?;
-    if size != header.length as usize {
-        return None;
-    }
-    Some((header, avps))
+    split_header(message).filter(|(header, _)| {
+        size <= REQUEST_SIZE && size % 4 == 0 && size == header.length as usize
+    })
 }
 
 /// Which request a message is, or the first reason not to read it as one.
 pub fn check(message: &[u8]) -> Result<Command, Refusal>
     ensures { result ≡ checked message.now }
 {
-    let Some((header, avps)) = split_sized(message) else {
-        return Err(Refusal::WrongSize);
-    };
+    let (header, avps) = split_sized(message).ok_or(Refusal::WrongSize)?;
     if !header.is_request() {
         return Err(Refusal::NotRequest);
     }
@@ -69,9 +64,7 @@ pub fn check(message: &[u8]) -> Result<Command, Refusal>
     if header.application != APPLICATION {
         return Err(Refusal::WrongApplication);
     }
-    let Some(command) = Command::from_code(header.command) else {
-        return Err(Refusal::WrongCommand);
-    };
+    let command = Command::try_from(header.command)?;
     if !is_sound(avps, REQUEST_LEVELS) {
         return Err(Refusal::Unsound);
     }
