@@ -42,11 +42,11 @@ fn print_asked<W: Write>(out: &mut W, asked: Asked) -> io::Result<()> {
             requested: Some(fields),
         } => {
             write!(out, ", asks for fields")?;
-            print_set(out, fields)
+            print_set(out, fields.bits())
         }
         Asked::Subscribe { events, end } => {
             write!(out, ", subscribes to events")?;
-            print_set(out, events)?;
+            print_set(out, events.bits())?;
             match end {
                 Some(end) => write!(out, " until {end}"),
                 None => Ok(()),
@@ -54,7 +54,7 @@ fn print_asked<W: Write>(out: &mut W, asked: Asked) -> io::Result<()> {
         }
         Asked::Unsubscribe { events } => {
             write!(out, ", unsubscribes from events")?;
-            print_set(out, events)
+            print_set(out, events.bits())
         }
     }
 }
