@@ -15,20 +15,6 @@ cut_skip zero xs h = refl
 cut_skip (suc k) [] h = absurd (omega arith)
 cut_skip (suc k) (x ∷ xs) h = cut_skip k xs (omega arith)
 
--- each AVP takes a byte at least
-cut_short : (k : ℕ) (xs : List ℕ) → length (cut k xs) ≤ length xs
-unfolding cut
-cut_short k [] = omega arith
-cut_short (suc k) (x ∷ xs) = let h = cut_short k xs in omega arith
-cut_short zero (x ∷ xs) =
-    elim (stands (x ∷ xs)) as (λ b. length (cond b (front (x ∷ xs) ∷ cut (step (x ∷ xs) - 1) xs) []) ≤ length (x ∷ xs)) [
-      | true ↦ (let h = cut_short (step (x ∷ xs) - 1) xs in omega arith)
-      | false ↦ omega arith
-    ]
-
-pub avps_few : (xs : List ℕ) → length (avps xs) ≤ length xs
-avps_few xs = cut_short 0 xs
-
 pub avps_stop : (xs : List ℕ) → stands xs ≡ false → avps xs ≡ []
 unfolding cut
 avps_stop [] h = refl

@@ -1,8 +1,7 @@
 //! The AVPs of a sequence one by one, in order.
-ghost use Rattle.std.specs.Prelude.{◌≡◌, ⊤, MatchOption};
-ghost use Rattle.std.specs.Iterator.{YieldsFirstBy, item_count, MakesProgress};
-ghost use Rattle.diameter.specs.Lists.{avps};
-ghost use Rattle.diameter.specs.Views.{avp_of, TakesFirst};
+ghost use Rattle.std.specs.Prelude.{◌≡◌, length};
+ghost use Rattle.std.specs.Iterator.{at_most};
+ghost use Rattle.diameter.specs.Views.{TakesFirst};
 
 use crate::avp::{AvpView, split_avp};
 
@@ -31,15 +30,11 @@ impl<'a> Avps<'a> {
 impl<'a> Iterator for Avps<'a> {
     type Item = AvpView<'a>;
 
-    ghost next_gives = { YieldsFirstBy avp_of (λ s. avps s.rest.now) };
+    ghost next_gives = { λ s r t. TakesFirst r t.rest.now s.rest.now };
 
-    ghost remaining = { item_count (λ s. avps s.rest.now) };
+    ghost remaining = { λ s. at_most (length s.rest.now) };
 
-    fn next(&mut self) -> Option<AvpView<'a>>
-        ensures steps { YieldsFirstBy avp_of (λ s. avps s.rest.now) self.old result self.new }
-        ensures goes { MakesProgress (λ _. ⊤) (item_count (λ s. avps s.rest.now)) self.old result self.new }
-        ensures takes { TakesFirst result self.new.rest.now self.old.rest.now }
-    {
+    fn next(&mut self) -> Option<AvpView<'a>> {
         let (avp, rest) = split_avp(self.rest)?;
         *self = Avps { rest };
         Some(avp)

@@ -10,7 +10,7 @@ pub fn is_sound(bytes: &[u8], levels: u8) -> bool
     ensures { result ≡ sound levels bytes.now }
 {
     let mut avps = Avps::new(bytes);
-    // Not a `for` over the AVPs: only `next` says what it leaves, and at the end that decides.
+    // Not a `for` over `&mut avps`: what such a loop leaves in `avps` is not proved, and at the end that decides.
     while let Some(avp) = avps.next() {
         if is_group(avp.code, avp.vendor) && (levels == 0 || !is_sound(avp.payload, levels - 1)) {
             return false;

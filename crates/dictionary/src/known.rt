@@ -1,5 +1,5 @@
 //! The known AVPs by name.
-ghost use Rattle.std.specs.Prelude.{◌≡◌};
+ghost use Rattle.std.specs.Prelude.{◌≡◌, ◌<◌};
 ghost use Rattle.dictionary.specs.Names.{known, code, vendor, flags, shortest, index, repeats};
 ghost use Rattle.dictionary.specs.Laws.{NamesAgree};
 ghost use Rattle.diameter.specs.Lists.{named};
@@ -31,6 +31,9 @@ pub enum Known {
 }
 
 impl Known {
+    /// How many there are.
+    pub const COUNT: usize = 18;
+
     /// The known AVP of this code and this vendor, where there is one.
     pub fn named(code: u32, vendor: u32) -> Option<Known>
         ensures { result ≡ known code vendor }
@@ -130,7 +133,8 @@ impl Known {
 
     /// Its place in the dictionary, counted from 0.
     pub fn index(self) -> u32
-        ensures { result ≡ index self }
+        ensures is { result ≡ index self }
+        ensures within { result < 18 }
     {
         self as u32
     }

@@ -1,6 +1,7 @@
 //! What is printed of a request that was read, or of its refusal.
 use diameter::avp::AvpView;
 use dictionary::address::AddressView;
+use fieldset::BitSet;
 use request::asking::{Asked, FaultyAvp, Rejection, Request, Target};
 use std::fmt;
 
@@ -26,12 +27,12 @@ impl fmt::Display for Printable<'_> {
 
 /// The members of a set, with commas between.
 #[derive(Clone, Copy)]
-struct Members(u16);
+struct Members<const WIDTH: u32>(BitSet<WIDTH>);
 
-impl fmt::Display for Members {
+impl<const WIDTH: u32> fmt::Display for Members<WIDTH> {
     fn fmt<W: fmt::Write>(&self, f: &mut fmt::Formatter<W>) -> fmt::Result {
         let mut mark = ' ';
-        for k in (0..16u8).filter(|k| (self.0 >> *k) % 2 == 1) {
+        for k in (0..16u8).filter(|k| self.0.contains(*k)) {
             write!(f, "{mark}{k}")?;
             mark = ',';
         }

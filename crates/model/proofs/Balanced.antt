@@ -6,8 +6,7 @@ use Rattle.std.proofs.lemmas.Bool.Decides.{nat_tests}
 use Rattle.refusal.specs.declared.Refusal.TheVariants.{UnknownAf}
 use Rattle.dictionary.specs.Addresses.{Address}
 use Rattle.request.specs.Askings.{Asking, Rejected}
-use Rattle.request.specs.declared.asking.Asked.{Asked}
-use Rattle.request.specs.declared.asking.Asked.TheVariants.{UserData, Subscribe, Unsubscribe}
+use Rattle.request.specs.Askings.{Asked, UserData, Subscribe, Unsubscribe}
 use Rattle.model.specs.Values.{Sets, Book, Session, Subscription, Notice, Opening, Call, Arrive, Set, Leave, Clock, Ask, Take, Settle, Tell, Reply, Done, Counts, Line, outcome, refused, at_place, holds, some, entries}
 use Rattle.model.specs.Places.{placed, altered, has_room}
 use Rattle.model.specs.Ledger.{Ledger, blank, with_sessions, with_subs as with_wants, through, due_event, change_falls_due, on_set, not_of, not_over, on_ask, subs_asked, address_meant, replaced, loses, on_settle, with_settled, entered, ledger_from, ledger}

@@ -8,8 +8,7 @@ use Rattle.diameter.specs.Headers.{header_of}
 use Rattle.fieldset.specs.Sets.{has, members}
 use Rattle.std.proofs.lemmas.Nat.Bits.{bit_at-suc}
 use Rattle.request.specs.Askings.{Subject, at_address, of_user, Asking, nothing, Rejected}
-use Rattle.request.specs.declared.asking.Asked.{Asked}
-use Rattle.request.specs.declared.asking.Asked.TheVariants.{UserData, Subscribe, Unsubscribe}
+use Rattle.request.specs.Askings.{Asked, UserData, Subscribe, Unsubscribe}
 use Rattle.writer.specs.Headers.{message_header}
 use Rattle.writer.specs.Parts.{parts_bytes}
 use Rattle.answer.specs.Answers.{answer_bytes, answer_front, answer_flags}

@@ -18,8 +18,7 @@ use Rattle.e2.specs.Checks.{command_of}
 use Rattle.fieldset.specs.Sets.{minus}
 use Rattle.request.specs.Askings.{Subject, at_address, of_user, Asking}
 use Rattle.request.specs.Readings.{asking}
-use Rattle.request.specs.declared.asking.Asked.{Asked}
-use Rattle.request.specs.declared.asking.Asked.TheVariants.{UserData, Subscribe, Unsubscribe}
+use Rattle.request.specs.Askings.{Asked, UserData, Subscribe, Unsubscribe}
 use Rattle.model.specs.Values.{Sets, Session, Subscription, Notice, Call, Arrive, Set, Leave, Clock, Ask, Take, Settle, Tell, Reply, Line, value, lives_at, is_named, in_view, fresh, with_value, at_place, holds, lapsed, some}
 
 pub record Ledger : Type 0 where

@@ -24,8 +24,7 @@ use Rattle.dictionary.specs.Addresses.{Address, sized}
 use Rattle.fieldset.specs.Sets.{has, minus}
 use Rattle.request.specs.Askings.{Subject, at_address, of_user, Asking, Fault, nothing, Rejected}
 use Rattle.request.specs.Readings.{reading, session_id}
-use Rattle.request.specs.declared.asking.Asked.{Asked}
-use Rattle.request.specs.declared.asking.Asked.TheVariants.{UserData, Subscribe, Unsubscribe}
+use Rattle.request.specs.Askings.{Asked, UserData, Subscribe, Unsubscribe}
 use Rattle.answer.specs.Answers.{bare, showing, telling, answer_bytes}
 use Rattle.message.specs.Laws.{is_group_field}
 use Rattle.message.specs.Limits.{name_limit, value_limit, buffer_least}

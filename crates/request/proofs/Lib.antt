@@ -1,3 +1,4 @@
-pub mod Named
-pub mod Walks
+pub mod Members
 pub mod Unions
+pub mod Taken
+pub mod Lacks

@@ -42,6 +42,9 @@ unfoldable pub with_parts : List Avp → List Avp
 with_parts [] = []
 with_parts (a ∷ later) = a ∷ (parts a ++ with_parts later)
 
+abbrev pub stranger_in : Avp → Option Avp
+stranger_in a = cond (unsupported a) (Some a) (first_such unsupported (parts a))
+
 abbrev pub stranger : List Avp → Option Avp
 stranger l = first_such unsupported (with_parts l)
 

@@ -1,25 +1,26 @@
 -- What is promised of a request above its definitions.
---     carries kind k a          the AVP a carries the number k of this kind
---     carried_by_some kind k l  one of the AVPs l does
+--     carries carrier means k a          the AVP a is named as `carrier`, and its number stands for k, as `means` says
+--     carried_by_some carrier means k l  one of the AVPs l is such
 use Rattle.std.specs.Prelude.{◌≡◌, ℕ, Bool, false, ◌&&◌, ◌||◌, List, [], ◌∷◌, Some, None, Option, ◌==◌}
 use Rattle.fieldset.specs.Sets.{has}
 use Rattle.diameter.specs.Lists.{Avp}
 use Rattle.dictionary.specs.Numbers.{word}
 use Rattle.request.specs.Faults.{is}
-use Rattle.request.specs.Readings.{union, carrier, meaning}
-use Rattle.request.specs.declared.number.Numbers.{Numbers}
+use Rattle.dictionary.specs.declared.known.Known.{Known}
+use Rattle.request.specs.Readings.{union}
 
-abbrev pub means : Option ℕ → ℕ → Bool
-means None k = false
-means (Some n) k = k == n
+abbrev pub stands_for : Option ℕ → ℕ → Bool
+stands_for None k = false
+stands_for (Some n) k = k == n
 
-abbrev pub carries : Numbers → ℕ → Avp → Bool
-carries kind k a = is (carrier kind) a && means (meaning kind (word a.payload)) k
+abbrev pub carries : Known → (ℕ → Option ℕ) → ℕ → Avp → Bool
+carries carrier means k a = is carrier a && stands_for (means (word a.payload)) k
 
-abbrev pub carried_by_some : Numbers → ℕ → List Avp → Bool
-carried_by_some kind k [] = false
-carried_by_some kind k (a ∷ later) = carries kind k a || carried_by_some kind k later
+abbrev pub carried_by_some : Known → (ℕ → Option ℕ) → ℕ → List Avp → Bool
+carried_by_some carrier means k [] = false
+carried_by_some carrier means k (a ∷ later) = carries carrier means k a || carried_by_some carrier means k later
 
--- a set of fields or events holds exactly the numbers that the AVPs carry
+-- a set, of fields, of events or of whatever numbers stand for, holds exactly the numbers that the AVPs carry
 abbrev pub UnionOfAll : Type 0
-UnionOfAll = (kind : Numbers) (l : List Avp) (k : ℕ) → has (union kind 0 l) k ≡ carried_by_some kind k l
+UnionOfAll =
+    (carrier : Known) (means : ℕ → Option ℕ) (l : List Avp) (k : ℕ) → has (union carrier means 0 l) k ≡ carried_by_some carrier means k l

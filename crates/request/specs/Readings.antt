@@ -3,7 +3,7 @@
 --     asking command l              what the AVPs ask, where none of these finds anything
 --     session_id m                  the Session-Id of m, where its AVPs are sound and begin with a right one
 --     reading m name now            what the message m of the application function `name` says at the time now
-use Rattle.std.specs.Prelude.{ℕ, ◌^◌, false, cond, ◌&&◌, List, [], ◌∷◌, Some, None, Ok, Err, Option, Result, bit_or}
+use Rattle.std.specs.Prelude.{◌≡◌, ℕ, ◌^◌, ◌<◌, min, IfSome, false, cond, ◌&&◌, List, [], ◌∷◌, Some, None, Ok, Err, Option, Result, bit_or}
 use Rattle.std.specs.Option.{option_map}
 use Rattle.refusal.specs.declared.Refusal.{Refusal}
 use Rattle.refusal.specs.declared.Refusal.TheVariants.{UnsupportedAvp, RepeatedAvp, MissingAvp, WrongAvp, WrongAf}
@@ -18,11 +18,7 @@ use Rattle.dictionary.specs.Numbers.{word, field_of, event_of, time_of}
 use Rattle.dictionary.specs.declared.known.Known.{Known}
 use Rattle.dictionary.specs.declared.known.Known.TheVariants.{UserName, SessionId, OriginHost, OriginRealm, GloballyUniqueAddress, RequestedInformation, EventType, SubsReqType, ExpiryTime}
 use Rattle.request.specs.Faults.{is, there, first, stranger, repeated, missing, misfit, foreign, deadline, subscribes}
-use Rattle.request.specs.Askings.{Subject, at_address, of_user, Asking, Fault, copied, lacks, nothing, Rejected}
-use Rattle.request.specs.declared.number.Numbers.{Numbers}
-use Rattle.request.specs.declared.number.Numbers.TheVariants.{Fields, Events}
-use Rattle.request.specs.declared.asking.Asked.{Asked}
-use Rattle.request.specs.declared.asking.Asked.TheVariants.{UserData as ForUserData, Subscribe, Unsubscribe}
+use Rattle.request.specs.Askings.{Asked, UserData as ForUserData, Subscribe, Unsubscribe, Subject, at_address, of_user, Asking, Fault, copied, lacks, nothing, Rejected}
 
 -- the first row that finds something
 abbrev pub with_first : Option Fault → Refusal → Option Rejected → Option Rejected
@@ -50,33 +46,31 @@ payload_or_none (Some a) = a.payload
 abbrev pub payload_at : Known → List Avp → List ℕ
 payload_at k l = payload_or_none (first_such (is k) l)
 
--- the AVP that carries numbers of this kind, and what they stand for
-abbrev pub carrier : Numbers → Known
-carrier Fields = RequestedInformation
-carrier Events = EventType
-
-abbrev pub meaning : Numbers → ℕ → Option ℕ
-meaning Fields n = field_of n
-meaning Events n = event_of n
-
 abbrev pub bit_of : Option ℕ → ℕ
 bit_of None = 0
 bit_of (Some n) = 2 ^ n
 
--- what one AVP adds
-abbrev pub adds : Numbers → Avp → ℕ
-adds kind a = cond (is (carrier kind) a) (bit_of (meaning kind (word a.payload))) 0
+-- what one AVP adds, where those of the name `carrier` carry numbers, and `means` says what a number stands for
+abbrev pub adds : Known → (ℕ → Option ℕ) → Avp → ℕ
+adds carrier means a = cond (is carrier a) (bit_of (means (word a.payload))) 0
 
 -- the union of the numbers that the AVPs carry, as bits, and of the bits so far
-unfoldable pub union : Numbers → ℕ → List Avp → ℕ
-union kind bits [] = bits
-union kind bits (a ∷ later) = union kind (bit_or bits (adds kind a)) later
+unfoldable pub union : Known → (ℕ → Option ℕ) → ℕ → List Avp → ℕ
+union carrier means bits [] = bits
+union carrier means bits (a ∷ later) = union carrier means (bit_or bits (adds carrier means a)) later
+
+-- a function that is called as `calls` says computes `means`, whose values are below the width
+abbrev pub Computes : (ℕ → Option ℕ → Type 0) → (ℕ → Option ℕ) → ℕ → Type 0
+Computes calls means width = (n : ℕ) (r : Option ℕ) → n < 2 ^ 32 → calls n r → (r ≡ means n) × IfSome (means n) (λ k. k < min width 16)
+
+abbrev pub fields : List Avp → ℕ
+fields l = union RequestedInformation field_of 0 l
 
 abbrev pub requested : List Avp → Option ℕ
-requested l = cond (there RequestedInformation l) (Some (union Fields 0 l)) None
+requested l = cond (there RequestedInformation l) (Some (fields l)) None
 
 abbrev pub events : List Avp → ℕ
-events l = union Events 0 l
+events l = union EventType event_of 0 l
 
 abbrev pub end : List Avp → Option ℕ
 end l = option_map (λ (a : Avp). time_of (word a.payload)) (first_such (is ExpiryTime) l)

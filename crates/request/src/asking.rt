@@ -1,19 +1,22 @@
 //! What a request says, as values that borrow its bytes.
+ghost use Rattle.std.specs.Prelude.{◌≡◌, None};
+
 use diameter::avp::AvpView;
 use dictionary::address::AddressView;
 use dictionary::known::Known;
 use dictionary::number::Time;
+use fieldset::{EventSet, FieldSet};
 use refusal::Refusal;
 
-/// What is asked. Sets are plain numbers of bits here, and made sets when they are used.
+/// What is asked.
 #[derive(Clone, Copy)]
 pub enum Asked {
     /// The fields of a session: those in the set, or all where there is none.
-    UserData { requested: Option<u16> },
+    UserData { requested: Option<FieldSet> },
     /// To be told of the events in the set, until the end if there is one.
-    Subscribe { events: u16, end: Option<Time> },
+    Subscribe { events: EventSet, end: Option<Time> },
     /// Not to be told of the events in the set any more.
-    Unsubscribe { events: u16 },
+    Unsubscribe { events: EventSet },
 }
 
 /// Which session a request is about.
@@ -49,4 +52,16 @@ pub enum FaultyAvp<'a> {
 pub struct Rejection<'a> {
     pub refusal: Refusal,
     pub faulty: Option<FaultyAvp<'a>>,
+}
+
+/// A request that is refused for no AVP of its own.
+impl From<Refusal> for Rejection<'_> {
+    ghost from_gives = { λ refusal r. (r.refusal ≡ refusal) × (r.faulty ≡ None) };
+
+    fn from(refusal: Refusal) -> Self {
+        Rejection {
+            refusal,
+            faulty: None,
+        }
+    }
 }

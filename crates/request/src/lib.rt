@@ -2,7 +2,7 @@
 #![tactic(auto)]
 
 pub mod asking;
-mod finding;
+mod body;
+mod fault;
 pub mod number;
 pub mod reading;
-mod scan;

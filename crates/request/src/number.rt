@@ -1,68 +1,51 @@
 //! The sets of numbers that a request carries, one to an AVP.
-ghost use Rattle.std.specs.Prelude.{◌≡◌};
+ghost use Rattle.std.specs.Prelude.{◌≡◌, ℕ, Option};
 ghost use Rattle.diameter.specs.Lists.{avps};
 ghost use Rattle.diameter.specs.Views.{avp_of};
-ghost use Rattle.request.specs.Readings.{carrier, meaning, adds, union};
+ghost use Rattle.request.specs.Readings.{adds, union, Computes};
 ghost use Rattle.request.specs.Laws.{UnionOfAll};
 
-use crate::finding::is_named;
-use diameter::avp::{AvpView, split_avp};
+use crate::body::Body;
+use diameter::avp::AvpView;
+use diameter::search::AvpTest;
 use dictionary::known::Known;
-use dictionary::number::{named_event, requested_field, word};
+use dictionary::number::word;
+use fieldset::BitSet;
 
-/// What the numbers stand for: the fields of Requested-Information, or the events of Event-Type.
-#[derive(Clone, Copy)]
-pub(crate) enum Numbers {
-    Fields,
-    Events,
-}
-
-impl Numbers {
-    /// The AVP that carries them.
-    fn carrier(self) -> Known
-        ensures { result ≡ carrier self }
-    {
-        match self {
-            Numbers::Fields => Known::RequestedInformation,
-            Numbers::Events => Known::EventType,
-        }
-    }
-
-    /// What one of them stands for.
-    fn meaning(self, number: u32) -> Option<u8>
-        ensures { result ≡ meaning self number }
-    {
-        match self {
-            Numbers::Fields => requested_field(number),
-            Numbers::Events => named_event(number),
-        }
-    }
-
-    /// The bit that an AVP adds.
-    fn bit(self, avp: AvpView<'_>) -> u16
-        ensures { result ≡ adds self (avp_of avp.entry) }
-    {
-        if !is_named(avp, self.carrier()) {
-            return 0;
-        }
-        match self.meaning(word(avp.payload)) {
-            Some(number) => 1 << number,
-            None => 0,
-        }
-    }
-}
-
-/// The union of the numbers of this kind, as bits.
-pub(crate) fn union_of(bytes: &[u8], kind: Numbers) -> u16
-    ensures { result ≡ union kind 0 (avps bytes.now) }
+/// The set of what the number in this AVP stands for, where the AVP has this name.
+fn member_of<const WIDTH: u32, F: Fn(u32) -> Option<u8>>(
+    avp: AvpView<'_>,
+    carrier: Known,
+    meaning: &F,
+) -> BitSet<WIDTH>
+    requires { F.IsAlwaysCallable meaning.now }
+    ensures { (m : ℕ → Option ℕ) → Computes (F.post meaning.now) m WIDTH → result.bits ≡ adds carrier m (avp_of avp.entry) }
 {
-    let mut bits = 0;
-    let mut rest = bytes;
-    while let Some((avp, later)) = split_avp(rest) {
-        bits |= kind.bit(avp);
-        rest = later;
+    if !carrier.passes(avp) {
+        return BitSet::empty();
     }
-    bits
+    match meaning(word(avp.payload)) {
+        Some(number) => BitSet::only(number).unwrap_or(BitSet::empty()),
+        None => BitSet::empty(),
+    }
+}
+
+impl Body<'_> {
+    /// The set of what the numbers in the AVPs of this name stand for.
+    pub(crate) fn union<const WIDTH: u32, F: Fn(u32) -> Option<u8>>(
+        self,
+        carrier: Known,
+        meaning: F,
+    ) -> BitSet<WIDTH>
+        requires { F.IsAlwaysCallable meaning }
+        ensures { (m : ℕ → Option ℕ) → Computes (F.post meaning) m WIDTH → result.bits ≡ union carrier m 0 (avps self.entry.bytes.now) }
+    {
+        let mut set = BitSet::empty();
+        for avp in self.avps() {
+            set = set.union(member_of(avp, carrier, &meaning));
+        }
+        set
+    }
 }
 
 /// The set that a request names holds exactly the numbers that its AVPs carry.

@@ -1,238 +1,208 @@
 //! A request read: first the message as such, then its AVPs for each fault in turn, then what they ask.
-ghost use Rattle.std.specs.Prelude.{◌≡◌, Some, None, MatchOption};
-ghost use Rattle.std.specs.Str.{bytes_eq};
+ghost use Rattle.std.specs.Prelude.{◌≡◌, Some, None, MatchOption, MatchResult};
+ghost use Rattle.std.specs.Option.{option_map};
 ghost use Rattle.diameter.specs.Lists.{avps, first_such};
 ghost use Rattle.diameter.specs.Views.{found};
 ghost use Rattle.dictionary.specs.Addresses.{address_in};
-ghost use Rattle.request.specs.Faults.{is, first, is_session, lacking, needed_by, missing_by, subscribes, deadline, foreign};
-ghost use Rattle.fieldset.specs.Sets.{has};
-ghost use Rattle.dictionary.specs.Names.{index};
-ghost use Rattle.request.specs.Askings.{subject_of, rejected_found, asking_of, reading_of};
-ghost use Rattle.request.specs.Readings.{first_fault, faults, payload_at, requested, events, end, asked, by_address, asking, reading, right_session, session_id};
+ghost use Rattle.fieldset.specs.declared.set.BitSet.{BitSet};
+ghost use Rattle.request.specs.Faults.{is, first, is_session, lacking, needed_by, missing, there, subscribes, deadline, foreign};
+ghost use Rattle.request.specs.Askings.{copied, lacks, subject_of, refused, rejected_of, asked_of, asking_of, reading_of};
+ghost use Rattle.request.specs.Readings.{with_first, first_fault, faults, payload_at, requested, events, end, asked, by_address, asking, reading, right_session, session_id};
 
 use crate::asking::{Asked, FaultyAvp, Rejection, Request, Target};
-use crate::finding::{find, first_avp, is_named, payload_of};
-use crate::number::{Numbers, union_of};
-use crate::scan::{Scan, walk};
+use crate::body::Body;
 use diameter::avp::AvpView;
-use diameter::header::body_of;
+use diameter::search::AvpTest;
 use diameter::sound::is_sound;
 use dictionary::address::read_address;
 use dictionary::known::Known;
-use dictionary::number::{Time, named_time, word};
+use dictionary::number::{Time, named_event, named_time, requested_field, word};
 use e2::{Command, REQUEST_LEVELS, check};
+use fieldset::{EventSet, FieldSet};
 use refusal::Refusal;
 
-/// Whether the request subscribes.
-fn is_subscribing(bytes: &[u8]) -> bool
-    ensures { result ≡ subscribes (first_such (is Known.SubsReqType) (avps bytes.now)) }
+/// Refuses a request with this AVP, where there is one.
+fn refuse_with<'a>(refusal: Refusal, avp: Option<AvpView<'a>>) -> Result<(), Rejection<'a>>
+    ensures { MatchResult result (λ _. found avp.entry ≡ None) (λ r. Some (rejected_of r) ≡ with_first (option_map copied (found avp.entry)) refusal None) }
 {
-    match find(bytes, Known::SubsReqType) {
-        Some(avp) => avp.payload.len() == 4 && word(avp.payload) == 0,
-        None => false,
-    }
-}
-
-/// The time that an end has to be later than.
-fn deadline_of(bytes: &[u8], command: Command, time: Time) -> Option<Time>
-    ensures { result ≡ deadline command time (avps bytes.now) }
-{
-    match command {
-        Command::UserData => None,
-        Command::SubscribeNotifications => {
-            if is_subscribing(bytes) {
-                Some(time)
-            } else {
-                None
-            }
-        }
-    }
-}
-
-/// Whether the first AVP is the Session-Id.
-fn is_headed(bytes: &[u8]) -> bool
-    ensures { result ≡ is_session (first (avps bytes.now)) }
-{
-    match first_avp(bytes) {
-        Some(avp) => is_named(avp, Known::SessionId),
-        None => false,
-    }
-}
-
-/// Whether two runs of bytes are the same.
-fn is_same(a: &[u8], b: &[u8]) -> bool
-    ensures { result ≡ bytes_eq a.now b.now }
-{
-    a == b
-}
-
-/// The AF-Application-Identifier, where it is not this name.
-fn find_foreign<'a>(bytes: &'a [u8], name: &[u8]) -> Option<AvpView<'a>>
-    ensures { found result ≡ foreign name.now (avps bytes.now) }
-{
-    let avp = find(bytes, Known::AfApplicationIdentifier)?;
-    if is_same(avp.payload, name) {
-        None
-    } else {
-        Some(avp)
-    }
-}
-
-/// The first AVP that this command needs beside what every request needs, and that is not there.
-fn missing_for(command: Command, scan: &Scan<'_>) -> Option<Known>
-    ensures { result ≡ lacking (needed_by command (λ k. has scan.now.seen (index k))) }
-{
-    if let Command::SubscribeNotifications = command {
-        if !scan.has(Known::SubsReqType) {
-            return Some(Known::SubsReqType);
-        }
-        if !scan.has(Known::EventType) {
-            return Some(Known::EventType);
-        }
-    }
-    if scan.has(Known::GloballyUniqueAddress) || scan.has(Known::UserName) {
-        None
-    } else {
-        Some(Known::GloballyUniqueAddress)
-    }
-}
-
-/// The first AVP that a request needs and that is not there.
-fn find_missing(command: Command, headed: bool, scan: &Scan<'_>) -> Option<Known>
-    ensures { result ≡ missing_by command headed (λ k. has scan.now.seen (index k)) }
-{
-    if !headed {
-        Some(Known::SessionId)
-    } else if !scan.has(Known::VendorSpecificApplicationId) {
-        Some(Known::VendorSpecificApplicationId)
-    } else if !scan.has(Known::AuthSessionState) {
-        Some(Known::AuthSessionState)
-    } else if !scan.has(Known::OriginHost) {
-        Some(Known::OriginHost)
-    } else if !scan.has(Known::OriginRealm) {
-        Some(Known::OriginRealm)
-    } else if !scan.has(Known::DestinationRealm) {
-        Some(Known::DestinationRealm)
-    } else if !scan.has(Known::AfApplicationIdentifier) {
-        Some(Known::AfApplicationIdentifier)
-    } else {
-        missing_for(command, scan)
-    }
-}
-
-/// The first fault of the AVPs of a request, with what its answer carries.
-fn find_fault<'a>(
-    bytes: &'a [u8],
-    command: Command,
-    name: &[u8],
-    time: Time,
-) -> Option<Rejection<'a>>
-    ensures { rejected_found result ≡ first_fault (faults command name.now time (avps bytes.now)) }
-{
-    let scan = walk(bytes, deadline_of(bytes, command, time));
-    if let Some(avp) = scan.stranger {
-        return Some(Rejection {
-            refusal: Refusal::UnsupportedAvp,
+    match avp {
+        Some(avp) => Err(Rejection {
+            refusal,
             faulty: Some(FaultyAvp::Present(avp)),
-        });
+        }),
+        None => Ok(()),
     }
-    if let Some(avp) = scan.repeat {
-        return Some(Rejection {
-            refusal: Refusal::RepeatedAvp,
-            faulty: Some(FaultyAvp::Present(avp)),
-        });
-    }
-    if let Some(known) = find_missing(command, is_headed(bytes), &scan) {
-        return Some(Rejection {
+}
+
+/// Refuses a request without this AVP, where there is one.
+fn refuse_without<'a>(missing: Option<Known>) -> Result<(), Rejection<'a>>
+    ensures { MatchResult result (λ _. missing ≡ None) (λ r. Some (rejected_of r) ≡ with_first (option_map lacks missing) Refusal.MissingAvp None) }
+{
+    match missing {
+        Some(known) => Err(Rejection {
             refusal: Refusal::MissingAvp,
             faulty: Some(FaultyAvp::Missing(known)),
-        });
-    }
-    if let Some(avp) = scan.misfit {
-        return Some(Rejection {
-            refusal: Refusal::WrongAvp,
-            faulty: Some(FaultyAvp::Present(avp)),
-        });
-    }
-    let avp = find_foreign(bytes, name)?;
-    Some(Rejection {
-        refusal: Refusal::WrongAf,
-        faulty: Some(FaultyAvp::Present(avp)),
-    })
-}
-
-/// Which session the AVPs are about.
-fn target_of<'a>(bytes: &'a [u8]) -> Target<'a>
-    ensures { subject_of result ≡ by_address (address_in (payload_at Known.GloballyUniqueAddress (avps bytes.now))) (avps bytes.now) }
-{
-    match read_address(payload_of(bytes, Known::GloballyUniqueAddress)) {
-        Some(address) => Target::Address(address),
-        None => Target::User(payload_of(bytes, Known::UserName)),
+        }),
+        None => Ok(()),
     }
 }
 
-/// The fields that are asked for.
-fn requested_of(bytes: &[u8]) -> Option<u16>
-    ensures { result ≡ requested (avps bytes.now) }
-{
-    if find(bytes, Known::RequestedInformation).is_some() {
-        Some(union_of(bytes, Numbers::Fields))
-    } else {
-        None
+impl<'a> Body<'a> {
+    /// Whether the request subscribes.
+    fn is_subscribing(self) -> bool
+        ensures { result ≡ subscribes (first_such (is Known.SubsReqType) (avps self.entry.bytes.now)) }
+    {
+        self.find(Known::SubsReqType)
+            .is_some_and(|avp| avp.payload.len() == 4 && word(avp.payload) == 0)
     }
-}
 
-/// The end of a subscription, where there is one.
-fn end_of(bytes: &[u8]) -> Option<Time>
-    ensures { result ≡ end (avps bytes.now) }
-{
-    let avp = find(bytes, Known::ExpiryTime)?;
-    Some(named_time(word(avp.payload)))
-}
-
-/// What the AVPs ask.
-fn asked_of(bytes: &[u8], command: Command) -> Asked
-    ensures { result ≡ asked command (avps bytes.now) }
-{
-    match command {
-        Command::UserData => Asked::UserData {
-            requested: requested_of(bytes),
-        },
-        Command::SubscribeNotifications => {
-            let events = union_of(bytes, Numbers::Events);
-            if is_subscribing(bytes) {
-                Asked::Subscribe {
-                    events,
-                    end: end_of(bytes),
-                }
-            } else {
-                Asked::Unsubscribe { events }
-            }
+    /// The time that an end has to be later than.
+    fn deadline(self, command: Command, time: Time) -> Option<Time>
+        ensures { result ≡ deadline command time (avps self.entry.bytes.now) }
+    {
+        match command {
+            Command::UserData => None,
+            Command::SubscribeNotifications => self.is_subscribing().then_some(time),
         }
     }
-}
 
-/// A request without fault, read.
-fn accept<'a>(bytes: &'a [u8], command: Command) -> Request<'a>
-    ensures { asking_of result ≡ asking command (avps bytes.now) }
-{
-    Request {
-        asked: asked_of(bytes, command),
-        target: target_of(bytes),
-        host: payload_of(bytes, Known::OriginHost),
-        realm: payload_of(bytes, Known::OriginRealm),
+    /// Whether the first AVP is the Session-Id.
+    fn is_headed(self) -> bool
+        ensures { result ≡ is_session (first (avps self.entry.bytes.now)) }
+    {
+        self.first().is_some_and(|avp| Known::SessionId.passes(avp))
     }
-}
 
-/// The data of the first AVP, where it is a right Session-Id.
-fn first_session<'a>(bytes: &'a [u8]) -> Option<&'a [u8]>
-    ensures { MatchOption result (right_session (first (avps bytes.now)) ≡ None) (λ s. right_session (first (avps bytes.now)) ≡ Some s.now) }
-{
-    let avp = first_avp(bytes)?;
-    if is_named(avp, Known::SessionId) && avp.payload.len() >= 1 && avp.payload.len() <= 128 {
-        Some(avp.payload)
-    } else {
-        None
+    /// The AF-Application-Identifier, where it is not this name.
+    fn foreign(self, name: &[u8]) -> Option<AvpView<'a>>
+        ensures { found result ≡ foreign name.now (avps self.entry.bytes.now) }
+    {
+        self.find(Known::AfApplicationIdentifier)
+            .filter(|avp| avp.payload != name)
+    }
+
+    /// The first AVP that this command needs beside what every request needs, and that is not there.
+    fn missing_for(self, command: Command) -> Option<Known>
+        ensures { result ≡ lacking (needed_by command (λ k. there k (avps self.entry.bytes.now))) }
+    {
+        if command == Command::SubscribeNotifications {
+            if !self.has(Known::SubsReqType) {
+                return Some(Known::SubsReqType);
+            }
+            if !self.has(Known::EventType) {
+                return Some(Known::EventType);
+            }
+        }
+        let has_subject = self.has(Known::GloballyUniqueAddress) || self.has(Known::UserName);
+        (!has_subject).then_some(Known::GloballyUniqueAddress)
+    }
+
+    /// The first AVP that a request needs and that is not there.
+    fn missing(self, command: Command) -> Option<Known>
+        ensures { result ≡ missing command (avps self.entry.bytes.now) }
+    {
+        if !self.is_headed() {
+            return Some(Known::SessionId);
+        }
+        let needed: &[Known] = &[
+            Known::VendorSpecificApplicationId,
+            Known::AuthSessionState,
+            Known::OriginHost,
+            Known::OriginRealm,
+            Known::DestinationRealm,
+            Known::AfApplicationIdentifier,
+        ];
+        needed
+            .iter()
+            .copied()
+            .find(|known| !self.has(*known))
+            .or(self.missing_for(command))
+    }
+
+    /// Refuses a request for the first fault of its AVPs, where there is one.
+    fn check(self, command: Command, name: &[u8], time: Time) -> Result<(), Rejection<'a>>
+        ensures { refused result ≡ first_fault (faults command name.now time (avps self.entry.bytes.now)) }
+    {
+        refuse_with(Refusal::UnsupportedAvp, self.stranger())?;
+        refuse_with(Refusal::RepeatedAvp, self.repeat())?;
+        refuse_without(self.missing(command))?;
+        refuse_with(Refusal::WrongAvp, self.misfit(self.deadline(command, time)))?;
+        refuse_with(Refusal::WrongAf, self.foreign(name))
+    }
+
+    /// Which session the AVPs are about.
+    fn target(self) -> Target<'a>
+        ensures { subject_of result ≡ by_address (address_in (payload_at Known.GloballyUniqueAddress (avps self.entry.bytes.now))) (avps self.entry.bytes.now) }
+    {
+        match read_address(self.payload(Known::GloballyUniqueAddress)) {
+            Some(address) => Target::Address(address),
+            None => Target::User(self.payload(Known::UserName)),
+        }
+    }
+
+    /// The fields that are asked for, where some are.
+    fn requested(self) -> Option<FieldSet>
+        ensures { option_map (λ (s : BitSet 10). s.bits) result ≡ requested (avps self.entry.bytes.now) }
+    {
+        if self.has(Known::RequestedInformation) {
+            Some(self.union(Known::RequestedInformation, requested_field))
+        } else {
+            None
+        }
+    }
+
+    /// The events that are named.
+    fn events(self) -> EventSet
+        ensures { result.bits ≡ events (avps self.entry.bytes.now) }
+    {
+        self.union(Known::EventType, named_event)
+    }
+
+    /// The end of a subscription, where there is one.
+    fn end(self) -> Option<Time>
+        ensures { result ≡ end (avps self.entry.bytes.now) }
+    {
+        self.find(Known::ExpiryTime)
+            .map(|avp| named_time(word(avp.payload)))
+    }
+
+    /// What the AVPs ask.
+    fn asked(self, command: Command) -> Asked
+        ensures { asked_of result ≡ asked command (avps self.entry.bytes.now) }
+    {
+        match command {
+            Command::UserData => Asked::UserData {
+                requested: self.requested(),
+            },
+            Command::SubscribeNotifications if self.is_subscribing() => Asked::Subscribe {
+                events: self.events(),
+                end: self.end(),
+            },
+            Command::SubscribeNotifications => Asked::Unsubscribe {
+                events: self.events(),
+            },
+        }
+    }
+
+    /// A request without fault, read.
+    fn request(self, command: Command) -> Request<'a>
+        ensures { asking_of result ≡ asking command (avps self.entry.bytes.now) }
+    {
+        Request {
+            asked: self.asked(command),
+            target: self.target(),
+            host: self.payload(Known::OriginHost),
+            realm: self.payload(Known::OriginRealm),
+        }
+    }
+
+    /// The data of the first AVP, where it is a right Session-Id.
+    fn session_id(self) -> Option<&'a [u8]>
+        ensures { MatchOption result (right_session (first (avps self.entry.bytes.now)) ≡ None) (λ s. right_session (first (avps self.entry.bytes.now)) ≡ Some s.now) }
+    {
+        let avp = self.first()?;
+        let is_right = Known::SessionId.passes(avp) && Known::SessionId.fits(avp.payload, None);
+        is_right.then_some(avp.payload)
     }
 }
 
@@ -240,11 +210,12 @@ fn first_session<'a>(bytes: &'a [u8]) -> Option<&'a [u8]>
 pub fn session_id<'a>(message: &'a [u8]) -> Option<&'a [u8]>
     ensures { MatchOption result (session_id message.now ≡ None) (λ s. session_id message.now ≡ Some s.now) }
 {
-    let avps = body_of(message);
-    if !is_sound(avps, REQUEST_LEVELS) {
-        return None;
+    let body = Body::of(message);
+    if is_sound(body.bytes, REQUEST_LEVELS) {
+        body.session_id()
+    } else {
+        None
     }
-    first_session(avps)
 }
 
 /// What a message of the application function `name` says at this time: a request, or the first refusal that applies with what its
@@ -256,16 +227,8 @@ pub fn read_request<'a>(
 ) -> Result<Request<'a>, Rejection<'a>>
     ensures { reading_of result ≡ reading message.now name.now time }
 {
-    let command = match check(message) {
-        Ok(command) => command,
-        Err(refusal) => return Err(Rejection {
-            refusal,
-            faulty: None,
-        }),
-    };
-    let avps = body_of(message);
-    match find_fault(avps, command, name, time) {
-        Some(rejection) => Err(rejection),
-        None => Ok(accept(avps, command)),
-    }
+    let command = check(message)?;
+    let body = Body::of(message);
+    body.check(command, name, time)?;
+    Ok(body.request(command))
 }

@@ -1,16 +1,10 @@
-use Rattle.std.proofs.Common.{◌≡◌, length, ◌∙◌, inl, arith, rules}
+use Rattle.std.proofs.Common.{◌∙◌, rules}
 use borrow.Author.Tests.{tests}
 use Rattle.std.proofs.lemmas.Iterator.Consumers.{YieldsList-at, YieldsList-from_filter, count_from_yields_List}
 use Rattle.std.proofs.lemmas.List.Sums.{length-filter}
 use Rattle.diameter.specs.Lists.{avps}
-use Rattle.diameter.proofs.Turns.{avps_few}
 use Rattle.diameter.proofs.Yielded.{avps_yielded}
 use Rattle.diameter.proofs.search.count_such.Goals as goal
-
-pub count-requires-clause-fits : goal.count-requires-clause-fits
-count-requires-clause-fits g c =
-    let same : length (avps c.filter.result.iter.rest.now) ≡ length (avps c.args.bytes.now) = search rules in
-    inl (omega (arith, same, avps_few c.args.bytes.now))
 
 pub returns : goal.returns
 returns g c =

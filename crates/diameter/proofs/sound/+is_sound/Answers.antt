@@ -7,7 +7,7 @@ use Rattle.diameter.proofs.sound.+is_sound.Goals.{else-is_group-via-then-is_grou
 
 pub returns-then-not-is_sound : goal.returns-then-not-is_sound
 returns-then-not-is_sound t c =
-    let s = c.in-Some.ensures.takes in
+    let s = c.in-Some.ensures.steps in
     let g = c.if-is_group.ensures in
     elim c.if-levels-eq0.branch [
       | then-levels-eq0 w ↦ split_deep s _ g w.if-levels-eq0.true ∙ c.loop-avp.invariant
@@ -19,7 +19,7 @@ returns-then-not-is_sound t c =
 
 pub loop-avp-preserved : goal.loop-avp-preserved
 loop-avp-preserved t c =
-    let s = c.in-Some.ensures.takes in
+    let s = c.in-Some.ensures.steps in
     elim c.else-is_group.branch [
       | else-is_group-via-then-is_group+else-not-is_sound w ↦
           elim w.if-levels-eq0.branch [
@@ -34,7 +34,7 @@ loop-avp-preserved t c =
 
 pub returns : goal.returns
 returns t c =
-    let stop = c.in_default.ensures.takes in
+    let stop = c.in_default.ensures.steps in
     c.is_empty.ensures
     ∙ ap (λ l. eqb (length l) 0) (c.rest.ensures ∙ stop.1)
     ∙ sound_stop _ c.loop-avp.avps.rest.now stop.0

@@ -1,0 +1,28 @@
+use Rattle.std.proofs.Common.{Bool, not, cond, Some, sym, ap, [], ◌∷◌, List, rules, ◌∙◌}
+use Rattle.std.specs.Option.{option_or}
+use borrow.Author.Tests.{tests}
+use Rattle.std.proofs.lemmas.Iterator.{YieldsList-from_slice}
+use Rattle.std.proofs.lemmas.Iterator.Consumers.{YieldsList-from_copied, YieldsList-at}
+use Rattle.std.proofs.lemmas.Iterator.Adapters.{option_map_id}
+use Rattle.std.proofs.lemmas.Iterator.Search.{find_from_yields_List}
+use Rattle.diameter.specs.Lists.{avps}
+use Rattle.dictionary.specs.declared.known.Known.{Known}
+use Rattle.dictionary.specs.declared.known.Known.TheVariants.{SessionId, VendorSpecificApplicationId, AuthSessionState, OriginHost, OriginRealm, DestinationRealm, AfApplicationIdentifier}
+use Rattle.request.specs.Faults.{there, lacking, needed_by}
+use Rattle.request.proofs.Lacks.{rows, lacking_rows}
+use Rattle.request.proofs.body.Body.missing.Goals as goal
+
+needed : List Known
+needed = VendorSpecificApplicationId ∷ AuthSessionState ∷ OriginHost ∷ OriginRealm ∷ DestinationRealm ∷ AfApplicationIdentifier ∷ []
+
+pub returns : goal.returns
+unfolding needed
+returns c =
+    let l = avps c.args.self.bytes.now in
+    let absent = find_from_yields_List (λ k. not (there k l)) c.find.new.self _ c.find.result c.find.ensures.ran (YieldsList-from_copied (YieldsList-at c.copied.ensures.source (YieldsList-from_slice needed c.iter.ensures.rest))) (λ x b q k. search (rules, tests)) in
+    let here : Known → Bool = λ k. there k l in
+    let more = needed_by c.args.command here in
+    c.or.ensures
+    ∙ (λ i. option_or ((sym (option_map_id c.find.result) ∙ absent) i) (c.missing_for.ensures i))
+    ∙ lacking_rows here more needed
+    ∙ ap (λ b. cond b (lacking (rows needed here more)) (Some SessionId)) c.if-not-is_headed.ensures
