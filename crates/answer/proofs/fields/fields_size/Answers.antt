@@ -28,7 +28,7 @@ pub returns : goal.returns
 returns g c =
     let values : ℕ → List ℕ = g.S.FieldSource.value c.args.source.now in
     let start : c.into_iter-field-iterator.result.rest.bits ≡ c.args.shown.bits = search rules in
-    let none = ap (λ (q : List ℕ). parts_size (field_parts values q)) c.in-None.ensures.steps in
+    let none = ap (λ (q : List ℕ). parts_size (field_parts values q)) c.in-None.ensures.steps.0 in
     let all = ap (λ (n : ℕ). parts_size (field_parts values (members 10 n))) start in
     record {
       is = omega (arith, c.loop-field.invariant.2);

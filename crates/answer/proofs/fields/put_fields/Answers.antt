@@ -39,7 +39,7 @@ returns g c =
     let start : c.into_iter-field-iterator.result.rest.bits ≡ c.args.shown.bits = search rules in
     appends_as
     (sym (append-nil done.0)
-    ∙ ap (λ (q : List ℕ). done.0 ++ parts_bytes (field_parts values q)) (sym c.in-None.ensures.steps)
+    ∙ ap (λ (q : List ℕ). done.0 ++ parts_bytes (field_parts values q)) (sym c.in-None.ensures.steps.0)
     ∙ done.1.1
     ∙ ap (λ (n : ℕ). parts_bytes (field_parts values (members 10 n))) start)
     done.1.0
