@@ -2,6 +2,8 @@
 ghost use Rattle.std.specs.Prelude.{◌≡◌, ◌+◌, ◌^◌, ◌<◌, ◌≤◌, length};
 ghost use Rattle.diameter.specs.Bytes.{be24, be32};
 
+// Two functions, and not one over the number of bytes: each is one call of `from_be_bytes`, where a sum over a slice would be a loop.
+
 /// The number in the three bytes from `at` on.
 pub(crate) fn u24_at(bytes: &[u8], at: usize) -> u32
     requires { at + 3 ≤ length bytes.now }

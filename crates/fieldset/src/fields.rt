@@ -1,8 +1,8 @@
 //! The fields of a set one by one, in ascending order.
-ghost use Rattle.std.specs.Prelude.{◌≡◌, [], ◌∷◌, length, Some, None};
+ghost use Rattle.std.specs.Prelude.{◌≡◌};
 ghost use Rattle.fieldset.specs.Fields.{number};
 ghost use Rattle.fieldset.specs.Sets.{members};
-ghost use Rattle.std.specs.Iterator.{at_most};
+ghost use Rattle.std.specs.Iterator.{YieldsFirstBy, item_count};
 
 use crate::{Field, FieldSet};
 
@@ -24,9 +24,9 @@ impl FieldSet {
 impl Iterator for Fields {
     type Item = Field;
 
-    ghost next_gives = { λ s r t. elim r [ Some f ↦ members 10 s.rest.bits ≡ number f ∷ members 10 t.rest.bits | None ↦ members 10 s.rest.bits ≡ [] ] };
+    ghost next_gives = { YieldsFirstBy number (λ s. members 10 s.rest.bits) };
 
-    ghost remaining = { λ s. at_most (length (members 10 s.rest.bits)) };
+    ghost remaining = { item_count (λ s. members 10 s.rest.bits) };
 
     fn next(&mut self) -> Option<Field> {
         let lowest = self.rest.bits().trailing_zeros();

@@ -8,39 +8,39 @@ use Rattle.diameter.specs.Lists.{Avp}
 use Rattle.dictionary.specs.Numbers.{word}
 use Rattle.request.specs.Faults.{is}
 use Rattle.request.specs.Readings.{union, adds, bit_of}
-use Rattle.request.specs.Laws.{carried_by_some, stands_for}
+use Rattle.request.specs.Laws.{carried_by_some, means}
 use Rattle.dictionary.specs.declared.known.Known.{Known}
 use Rattle.request.proofs.Members.{has_power, has_nothing}
 
-pub union_more : (carrier : Known) (means : ℕ → Option ℕ) (bits : ℕ) (a : Avp) (later : List Avp) → union carrier means bits (a ∷ later) ≡ union carrier means (bit_or bits (adds carrier means a)) later
+pub union_more : (carrier : Known) (meaning : ℕ → Option ℕ) (bits : ℕ) (a : Avp) (later : List Avp) → union carrier meaning bits (a ∷ later) ≡ union carrier meaning (bit_or bits (adds carrier meaning a)) later
 unfolding union
-union_more carrier means bits a later = refl
+union_more carrier meaning bits a later = refl
 
-pub union_all : (carrier : Known) (means : ℕ → Option ℕ) (bits : ℕ) → union carrier means bits [] ≡ bits
+pub union_all : (carrier : Known) (meaning : ℕ → Option ℕ) (bits : ℕ) → union carrier meaning bits [] ≡ bits
 unfolding union
-union_all carrier means bits = refl
+union_all carrier meaning bits = refl
 
-bit_member : (o : Option ℕ) (k : ℕ) → has (bit_of o) k ≡ stands_for o k
+bit_member : (o : Option ℕ) (k : ℕ) → has (bit_of o) k ≡ means o k
 bit_member None k = has_nothing k
 bit_member (Some n) k = has_power n k
 
 -- what one AVP adds has the member k exactly when it carries k
-added : (b : Bool) (o : Option ℕ) (k : ℕ) → has (cond b (bit_of o) 0) k ≡ (b && stands_for o k)
+added : (b : Bool) (o : Option ℕ) (k : ℕ) → has (cond b (bit_of o) 0) k ≡ (b && means o k)
 added true o k = bit_member o k
 added false o k = has_nothing k
 
-members_from : (carrier : Known) (means : ℕ → Option ℕ) (bits : ℕ) (l : List Avp) (k : ℕ) → has (union carrier means bits l) k ≡ (has bits k || carried_by_some carrier means k l)
-members_from carrier means bits [] k = ap (λ (n : ℕ). has n k) (union_all carrier means bits) ∙ sym (or-false (has bits k))
-members_from carrier means bits (a ∷ later) k =
-    ap (λ (n : ℕ). has n k) (union_more carrier means bits a later)
-    ∙ members_from carrier means (bit_or bits (adds carrier means a)) later k
-    ∙ ap (λ (b : Bool). b || carried_by_some carrier means k later) (has_or bits (adds carrier means a) k)
-    ∙ or_assoc (has bits k) (has (adds carrier means a) k) (carried_by_some carrier means k later)
-    ∙ ap (λ (b : Bool). has bits k || (b || carried_by_some carrier means k later)) (added (is carrier a) (means (word a.payload)) k)
+members_from : (carrier : Known) (meaning : ℕ → Option ℕ) (bits : ℕ) (l : List Avp) (k : ℕ) → has (union carrier meaning bits l) k ≡ (has bits k || carried_by_some carrier meaning k l)
+members_from carrier meaning bits [] k = ap (λ (n : ℕ). has n k) (union_all carrier meaning bits) ∙ sym (or-false (has bits k))
+members_from carrier meaning bits (a ∷ later) k =
+    ap (λ (n : ℕ). has n k) (union_more carrier meaning bits a later)
+    ∙ members_from carrier meaning (bit_or bits (adds carrier meaning a)) later k
+    ∙ ap (λ (b : Bool). b || carried_by_some carrier meaning k later) (has_or bits (adds carrier meaning a) k)
+    ∙ or_assoc (has bits k) (has (adds carrier meaning a) k) (carried_by_some carrier meaning k later)
+    ∙ ap (λ (b : Bool). has bits k || (b || carried_by_some carrier meaning k later)) (added (is carrier a) (meaning (word a.payload)) k)
 
-pub members : (carrier : Known) (means : ℕ → Option ℕ) (l : List Avp) (k : ℕ) → has (union carrier means 0 l) k ≡ carried_by_some carrier means k l
-members carrier means l k = members_from carrier means 0 l k ∙ ap (λ (b : Bool). b || carried_by_some carrier means k l) (has_nothing k)
+pub members : (carrier : Known) (meaning : ℕ → Option ℕ) (l : List Avp) (k : ℕ) → has (union carrier meaning 0 l) k ≡ carried_by_some carrier meaning k l
+members carrier meaning l k = members_from carrier meaning 0 l k ∙ ap (λ (b : Bool). b || carried_by_some carrier meaning k l) (has_nothing k)
 
 -- what a adds, where b says whether it has the name, and o what its number stands for
-pub adds_is : (carrier : Known) (means : ℕ → Option ℕ) (a : Avp) (b : Bool) (o : Option ℕ) → b ≡ is carrier a → o ≡ means (word a.payload) → cond b (bit_of o) 0 ≡ adds carrier means a
-adds_is carrier means a b o p q = λ i. cond (p i) (bit_of (q i)) 0
+pub adds_is : (carrier : Known) (meaning : ℕ → Option ℕ) (a : Avp) (b : Bool) (o : Option ℕ) → b ≡ is carrier a → o ≡ meaning (word a.payload) → cond b (bit_of o) 0 ≡ adds carrier meaning a
+adds_is carrier meaning a b o p q = λ i. cond (p i) (bit_of (q i)) 0

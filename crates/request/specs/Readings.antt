@@ -50,18 +50,18 @@ abbrev pub bit_of : Option ℕ → ℕ
 bit_of None = 0
 bit_of (Some n) = 2 ^ n
 
--- what one AVP adds, where those of the name `carrier` carry numbers, and `means` says what a number stands for
+-- what one AVP adds, where those of the name `carrier` carry numbers, and `meaning` says what a number stands for
 abbrev pub adds : Known → (ℕ → Option ℕ) → Avp → ℕ
-adds carrier means a = cond (is carrier a) (bit_of (means (word a.payload))) 0
+adds carrier meaning a = cond (is carrier a) (bit_of (meaning (word a.payload))) 0
 
 -- the union of the numbers that the AVPs carry, as bits, and of the bits so far
 unfoldable pub union : Known → (ℕ → Option ℕ) → ℕ → List Avp → ℕ
-union carrier means bits [] = bits
-union carrier means bits (a ∷ later) = union carrier means (bit_or bits (adds carrier means a)) later
+union carrier meaning bits [] = bits
+union carrier meaning bits (a ∷ later) = union carrier meaning (bit_or bits (adds carrier meaning a)) later
 
--- a function that is called as `calls` says computes `means`, whose values are below the width
+-- a function that is called as `calls` says computes `meaning`, whose values are below the width
 abbrev pub Computes : (ℕ → Option ℕ → Type 0) → (ℕ → Option ℕ) → ℕ → Type 0
-Computes calls means width = (n : ℕ) (r : Option ℕ) → n < 2 ^ 32 → calls n r → (r ≡ means n) × IfSome (means n) (λ k. k < min width 16)
+Computes calls meaning width = (n : ℕ) (r : Option ℕ) → n < 2 ^ 32 → calls n r → (r ≡ meaning n) × IfSome (meaning n) (λ k. k < min width 16)
 
 abbrev pub fields : List Avp → ℕ
 fields l = union RequestedInformation field_of 0 l

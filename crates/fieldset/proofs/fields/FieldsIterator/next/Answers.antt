@@ -14,7 +14,8 @@ number_low f = search rules
 pub returns-in_err-field-clause-steps : goal.returns-in_err-field-clause-steps
 returns-in_err-field-clause-steps c =
     let h : 10 ≤ count_trailing_zeros 16 c.args.self.now.rest.bits = grind (arith, common_steps, c.try_from.ensures, c.ok.ensures, c.in_err-field.was) in
-    rw c.from_residual.ensures (none_in 10 c.args.self.now.rest.bits (omega arith) h)
+    let none = none_in 10 c.args.self.now.rest.bits (omega arith) h in
+    rw c.from_residual.ensures (none, none)
 
 pub returns : goal.returns
 returns c =
