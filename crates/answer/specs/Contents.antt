@@ -9,7 +9,7 @@ abbrev pub said_by : {S : Type 0} → (S → ℕ → List ℕ) → Content S →
 said_by values c =
     record {
       request = c.request;
-      session = c.session.octets.now;
+      session = c.session.0.octets.now;
       result = c.code;
       host = c.origin.host.now;
       realm = c.origin.realm.now;

@@ -15,7 +15,7 @@ use crate::source::FieldSource;
 use diameter::header::Header;
 use fieldset::FieldSet;
 use message::Origin;
-use message::section::write_message;
+use message::section::{Octets, write_message};
 use refusal::ResultCode;
 use request::asking::FaultyAvp;
 
@@ -38,7 +38,7 @@ impl<'m, 'o, 's, S: FieldSource> Draft<'m, 'o, 's, S> {
         Draft {
             content: Content {
                 request: header,
-                session: SessionId::new(session),
+                session: SessionId(Octets::new(session)),
                 code,
                 origin,
                 shown,

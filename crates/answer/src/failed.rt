@@ -5,7 +5,8 @@ ghost use Rattle.diameter.specs.Views.{avp_of};
 ghost use Rattle.request.specs.Askings.{fault_of, copied, lacks};
 ghost use Rattle.writer.specs.Bytes.{zeros};
 ghost use Rattle.answer.specs.Limits.{copy_limit};
-ghost use Rattle.answer.specs.Faults.{kept, copy, failed_avp, kept_of, held_of};
+ghost use Rattle.answer.specs.Faults.{kept, copy, failed_avp};
+ghost use Rattle.answer.specs.Copies.{FitsTell};
 
 use diameter::avp::AvpView;
 use dictionary::known::Known;
@@ -76,13 +77,12 @@ impl Section for Blank {
 #[derive(Clone, Copy)]
 pub(crate) struct Failed<'m> {
     faulty: Option<FaultyAvp<'m>>,
-    ghost there: { kept_of (fault_of faulty) ≤ held_of (fault_of faulty) },
-    ghost short: { held_of (fault_of faulty) ≤ copy_limit },
+    ghost fits: { FitsTell (fault_of faulty) },
 }
 
 impl<'m> Failed<'m> {
     pub(crate) fn new(faulty: Option<FaultyAvp<'m>>) -> Failed<'m>
-        requires { (kept_of (fault_of faulty) ≤ held_of (fault_of faulty)) × (held_of (fault_of faulty) ≤ copy_limit) }
+        requires { FitsTell (fault_of faulty) }
         ensures { fault_of result.faulty ≡ fault_of faulty.entry }
     {
         Failed { faulty }

@@ -1,5 +1,5 @@
 //! The sections that every answer begins with.
-ghost use Rattle.std.specs.Prelude.{◌≡◌, ◌+◌, ◌≤◌, length};
+ghost use Rattle.std.specs.Prelude.{◌≡◌, ◌+◌};
 ghost use Rattle.message.specs.Limits.{session_limit};
 ghost use Rattle.answer.specs.Answers.{is_protocol_error, answer_flags, session_avp, result_avp};
 
@@ -56,34 +56,24 @@ pub(crate) fn answer_flags(flags: u8, code: ResultCode) -> u8
 
 /// The Session-Id of the request, none where it is empty.
 #[derive(Clone, Copy)]
-pub(crate) struct SessionId<'m> {
-    octets: &'m [u8],
-    ghost fits: { length octets.now ≤ session_limit },
-}
+pub(crate) struct SessionId<'m>(pub(crate) Octets<'m>);
 
 impl<'m> SessionId<'m> {
-    pub(crate) fn new(octets: &'m [u8]) -> SessionId<'m>
-        requires { length octets.now ≤ session_limit }
-        ensures { result.octets.now ≡ octets.now }
-    {
-        SessionId { octets }
-    }
-
     fn avp(self) -> Option<KnownAvp<'m>>
-        ensures { ⟦<Option<KnownAvp<'m>> as Section>⟧.bytes result ≡ session_avp self.entry.octets.now }
+        ensures { ⟦<Option<KnownAvp<'m>> as Section>⟧.bytes result ≡ session_avp self.entry.0.octets.now }
     {
-        if self.octets.is_empty() {
+        if self.0.is_empty() {
             return None;
         }
         Some(Avp {
             kind: Known::SessionId,
-            data: Octets::new(self.octets),
+            data: self.0,
         })
     }
 }
 
 impl Section for SessionId<'_> {
-    ghost bytes = { λ s. session_avp s.octets.now };
+    ghost bytes = { λ s. session_avp s.0.octets.now };
 
     ghost most = { 15 + session_limit };
 

@@ -1,5 +1,5 @@
 //! Sections of a message: runs of bytes, each of which knows its length before it is written.
-ghost use Rattle.std.specs.Prelude.{◌≡◌, ℕ, ◌+◌, ◌≤◌, List, [], ◌++◌, length, take, drop, Some, None};
+ghost use Rattle.std.specs.Prelude.{◌≡◌, ℕ, ◌+◌, ◌≤◌, List, [], ◌++◌, length, take, drop, Some, None, ◌==◌};
 ghost use Rattle.writer.specs.Bytes.{bytes32};
 ghost use Rattle.writer.specs.Avps.{avp};
 ghost use Rattle.writer.specs.Headers.{header_bytes};
@@ -95,6 +95,13 @@ impl<'a> Octets<'a> {
         ensures { result.octets.now ≡ octets.now }
     {
         Octets { octets }
+    }
+
+    /// Whether there are none.
+    pub fn is_empty(self) -> bool
+        ensures { result ≡ (length self.entry.octets.now == 0) }
+    {
+        self.octets.is_empty()
     }
 }
 
