@@ -1,5 +1,5 @@
 //! AVPs of ours, each of a kind that tells what its header says.
-ghost use Rattle.std.specs.Prelude.{◌≡◌, ◌≤◌, length};
+ghost use Rattle.std.specs.Prelude.{◌≡◌};
 ghost use Rattle.fieldset.specs.Fields.{number};
 ghost use Rattle.dictionary.specs.Names as names;
 ghost use Rattle.writer.specs.declared.avp.AvpHead.{AvpHead};

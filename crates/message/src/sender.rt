@@ -1,5 +1,5 @@
 //! The AVPs that every message carries: the application, and who sends it.
-ghost use Rattle.std.specs.Prelude.{◌≡◌, ◌≤◌, length};
+ghost use Rattle.std.specs.Prelude.{◌≡◌};
 ghost use Rattle.message.specs.Messages.{application_avp, sender_avps};
 
 use crate::origin::Origin;

@@ -29,8 +29,8 @@ impl<B: RuleBook> Embargo<B> {
         Ok(Embargo { book, shut })
     }
 
-    #[tactic(auto, using(fieldset::proofs::Laws::has_minus))]
     /// What an AF sees under the embargo of a session that withholds some fields: nothing that is shut.
+    #[tactic(auto, using(fieldset::proofs::Laws::has_minus))]
     pub fn view(&self, af: u32, withheld: FieldSet) -> FieldSet
         ensures is { result.bits ≡ view_under self.now.shut.bits (B.RuleBook.allows self.now.book af) (B.RuleBook.overrides self.now.book af) withheld.bits }
         ensures shut { (k : ℕ) → has self.now.shut.bits k ≡ true → has result.bits k ≡ false }
