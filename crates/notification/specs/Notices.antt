@@ -17,7 +17,7 @@ notification_of origin r n serial =
       peer_host = r.peer.host.now;
       peer_realm = r.peer.realm.now;
       event = n.event;
-      address = address_of n.address;
+      address = address_of n.place.address;
       name = r.name.now;
       value = n.value.now;
     }

@@ -6,14 +6,21 @@ ghost use Rattle.notification.specs.Limits.{address_limit, place_limit};
 use dictionary::address::AddressView;
 use message::Origin;
 
+/// An address whose parts are no longer than those of an address may be.
+#[derive(Clone, Copy)]
+pub(crate) struct Place<'a> {
+    pub(crate) address: AddressView<'a>,
+    ghost ip_fits: { length address.ip.now ≤ address_limit },
+    ghost realm_fits: { length address.realm.now ≤ place_limit },
+}
+
 /// An event at an address, with the value that it is about.
+// The event is a plain number: any may be told, and those past 8 tell of no field.
 #[derive(Clone, Copy)]
 pub struct Notice<'a> {
     pub(crate) event: u8,
-    pub(crate) address: AddressView<'a>,
+    pub(crate) place: Place<'a>,
     pub(crate) value: &'a [u8],
-    ghost ip_fits: { length address.ip.now ≤ address_limit },
-    ghost place_fits: { length address.realm.now ≤ place_limit },
     ghost value_fits: { length value.now ≤ value_limit },
 }
 
@@ -21,12 +28,12 @@ impl<'a> Notice<'a> {
     pub fn new(event: u8, address: AddressView<'a>, value: &'a [u8]) -> Notice<'a>
         requires { (length address.ip.now ≤ address_limit) × ((length address.realm.now ≤ place_limit) × (length value.now ≤ value_limit)) }
         ensures event { result.event ≡ event }
-        ensures address { result.address ≡ address.entry }
+        ensures address { result.place.address ≡ address.entry }
         ensures value { result.value.now ≡ value.now }
     {
         Notice {
             event,
-            address,
+            place: Place { address },
             value,
         }
     }

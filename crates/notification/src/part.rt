@@ -6,7 +6,7 @@ ghost use Rattle.writer.specs.Stores.{Appends, room};
 ghost use Rattle.notification.specs.Limits.{address_limit, place_limit, session_most};
 ghost use Rattle.notification.specs.Notifications.{session_of, address_data, address_size, field_avp, peer_avps, event_avps};
 
-use crate::notice::{Notice, Recipient};
+use crate::notice::{Notice, Place, Recipient};
 use dictionary::address::AddressView;
 use dictionary::known::Known;
 use fieldset::Field;
@@ -44,29 +44,29 @@ impl Section for SessionText<'_> {
 /// A Globally-Unique-Address: the IP address, then the realm.
 pub(crate) type AddressAvp<'a> = Avp<Known, (KnownAvp<'a>, KnownAvp<'a>)>;
 
-/// The data of a Globally-Unique-Address.
-fn address_data<'a>(address: AddressView<'a>) -> (KnownAvp<'a>, KnownAvp<'a>)
-    requires { (length address.ip.now ≤ address_limit) × (length address.realm.now ≤ place_limit) }
-    ensures { ⟦<(KnownAvp<'a>, KnownAvp<'a>) as Section>⟧.bytes result ≡ address_data (address_of address.entry) }
-{
-    let ip = Avp {
-        kind: Known::FramedIpAddress,
-        data: Octets::new(address.ip),
-    };
-    let realm = Avp {
-        kind: Known::AddressRealm,
-        data: Octets::new(address.realm),
-    };
-    (ip, realm)
-}
+impl<'a> Place<'a> {
+    /// The IP address, then the realm.
+    fn data(self) -> (KnownAvp<'a>, KnownAvp<'a>)
+        ensures { ⟦<(KnownAvp<'a>, KnownAvp<'a>) as Section>⟧.bytes result ≡ address_data (address_of self.entry.address) }
+    {
+        let ip = Avp {
+            kind: Known::FramedIpAddress,
+            data: Octets::new(self.address.ip),
+        };
+        let realm = Avp {
+            kind: Known::AddressRealm,
+            data: Octets::new(self.address.realm),
+        };
+        (ip, realm)
+    }
 
-fn address_avp<'a>(address: AddressView<'a>) -> AddressAvp<'a>
-    requires { (length address.ip.now ≤ address_limit) × (length address.realm.now ≤ place_limit) }
-    ensures { ⟦<AddressAvp<'a> as Section>⟧.bytes result ≡ avp 300 0xC0 13019 (address_data (address_of address.entry)) }
-{
-    Avp {
-        kind: Known::GloballyUniqueAddress,
-        data: address_data(address),
+    fn avp(self) -> AddressAvp<'a>
+        ensures { ⟦<AddressAvp<'a> as Section>⟧.bytes result ≡ avp 300 0xC0 13019 (address_data (address_of self.entry.address)) }
+    {
+        Avp {
+            kind: Known::GloballyUniqueAddress,
+            data: self.data(),
+        }
     }
 }
 
@@ -76,19 +76,19 @@ pub fn put_address(w: &mut Writer<'_>, address: AddressView<'_>)
     ensures wrote { Appends w.old (avp 300 0xC0 13019 (address_data (address_of address.entry))) w.new }
     ensures ends { w.new.end ≡ w.old.end + (12 + address_size (address_of address.entry)) }
 {
-    address_avp(address).put(w);
+    Place { address }.avp().put(w);
 }
 
 impl<'a> Notice<'a> {
     /// The Event-Type and the address.
     pub(crate) fn event_avps(self) -> (Avp<Known, u32>, AddressAvp<'a>)
-        ensures { ⟦<(Avp<Known, u32>, AddressAvp<'a>) as Section>⟧.bytes result ≡ event_avps self.entry.event (address_of self.entry.address) }
+        ensures { ⟦<(Avp<Known, u32>, AddressAvp<'a>) as Section>⟧.bytes result ≡ event_avps self.entry.event (address_of self.entry.place.address) }
     {
         let event = Avp {
             kind: Known::EventType,
             data: u32::from(self.event),
         };
-        (event, address_avp(self.address))
+        (event, self.place.avp())
     }
 
     /// The AVP of the field that the event is a change of, where its value is not empty.

@@ -33,6 +33,7 @@ pub enum Target<'a> {
 pub struct Request<'a> {
     pub asked: Asked,
     pub target: Target<'a>,
+    // Not an `Origin` of messages of ours: those are at most 64 bytes by their type, and a request is read before it is answered.
     /// The Origin-Host and the Origin-Realm of the application function.
     pub host: &'a [u8],
     pub realm: &'a [u8],
