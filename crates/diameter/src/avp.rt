@@ -91,6 +91,7 @@ pub fn split_avp<'a>(bytes: &'a [u8]) -> Option<(AvpView<'a>, &'a [u8])>
 }
 
 /// Whether the AVP of this name is a group: its data are AVPs in turn.
+// Code and vendor as a header has them: a type for the two would be made for the call and taken apart in it.
 pub fn is_group(code: u32, vendor: u32) -> bool
     ensures { result ≡ group code vendor }
 {

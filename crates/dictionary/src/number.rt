@@ -20,6 +20,7 @@ fn at_most(number: u32, most: u8) -> Option<u8>
 }
 
 /// The field that a Requested-Information asks for.
+// Plain numbers here and below, not `Field` and an enum of events: a set takes its members by number.
 pub fn requested_field(number: u32) -> Option<u8>
     ensures { result ≡ field_of number }
 {

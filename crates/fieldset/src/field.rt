@@ -26,6 +26,7 @@ pub type FieldSet = BitSet<10>;
 
 impl Field {
     /// The field's number, 0 to 9.
+    // Not `From`: the number is the discriminant, and the interface has a name for it.
     pub fn number(self) -> u8
         ensures { result ≡ number self }
     {

@@ -3,6 +3,7 @@ ghost use Rattle.std.specs.Prelude.{◌≡◌, ℕ, ◌%◌, ◌^◌, ◌<◌, �
 ghost use Rattle.fieldset.specs.Sets.{has, minus, inside, how_many, members};
 
 /// A set of numbers below `WIDTH`: `k` is a member where bit `k` is set. Numbers from 16 on are never members.
+// Bits of one number, not a set of std: it is `Copy`, takes no heap, and is written as a number at the interface.
 #[derive(Clone, Copy, PartialEq, Eq, Debug)]
 pub struct BitSet<const WIDTH: u32> {
     bits: u16,

@@ -51,6 +51,7 @@ pub fn decode(text: &[u8], out: &mut Vec<u8>) -> Result<(), DecodeError>
     ensures { Decodes text.now out.old.items out.new.items result }
 {
     let mut high = None;
+    // The index is the column of a fault.
     for (i, c) in text.iter().enumerate() {
         if is_blank(*c) {
             continue;

@@ -143,6 +143,7 @@ impl Refusal {
     ];
 
     /// The number by which the interface names the refusal.
+    // Not `From`: the number is the discriminant, and the interface has a name for it.
     pub fn number(self) -> u8
         ensures { result ≡ number self }
     {

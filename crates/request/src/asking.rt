@@ -33,8 +33,8 @@ pub enum Target<'a> {
 pub struct Request<'a> {
     pub asked: Asked,
     pub target: Target<'a>,
-    // Not an `Origin` of messages of ours: those are at most 64 bytes by their type, and a request is read before it is answered.
     /// The Origin-Host and the Origin-Realm of the application function.
+    // Not one `message::Origin`: reading would rest on a crate about writing, for one pair that no function here takes.
     pub host: &'a [u8],
     pub realm: &'a [u8],
 }

@@ -52,7 +52,7 @@ impl<'a> Body<'a> {
     pub(crate) fn stranger(self) -> Option<AvpView<'a>>
         ensures { found result ≡ stranger (avps self.entry.bytes.now) }
     {
-        // Not `find_map(stranger_in)`: its proof did not close, since what it ensures lets it stop at an AVP with no stranger.
+        // Not `find_map(stranger_in)`: tried, and the proof did not close.
         for avp in self.avps() {
             if let Some(stranger) = stranger_in(avp) {
                 return Some(stranger);

@@ -5,6 +5,7 @@ use fieldset::FieldSet;
 
 /// Who may see what: two sets of fields for every application function (AF), by its number. An unknown one has two empty sets.
 /// Whoever writes a book says by `allows` and `overrides` what it means, and shows that the two questions answer that.
+// Two functions of one shape in each book: the two questions have each its own meaning.
 pub trait RuleBook {
     ghost allows: { Self → ℕ → ℕ };
 

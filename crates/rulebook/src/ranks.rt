@@ -17,6 +17,7 @@ pub(crate) fn has_above_three(numbers: &[u8]) -> bool
 fn reach(needs: &[u8; 10], rank: u8) -> FieldSet
     ensures { result.bits ≡ reached rank needs.now }
 {
+    // Not `fold`: tried, and that no turn passes 16 bits did not close.
     let mut bits = 0;
     for (k, need) in needs.iter().enumerate() {
         if *need <= rank {
@@ -43,6 +44,7 @@ pub(crate) fn rank_rows(ranks: &[u8], needs: &[u8; 10]) -> [Row; 32]
     ensures { take (length ranks.now) result ≡ map (rank_row needs.now) ranks.now }
 {
     let mut rows = [Row::default(); 32];
+    // Not `zip` with `iter_mut`: tried, and what the loop leaves in the array did not close.
     for (k, rank) in ranks.iter().enumerate() {
         rows[k] = rank_row(needs, *rank);
     }
