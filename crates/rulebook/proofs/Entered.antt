@@ -92,3 +92,6 @@ sound rows s same some few n r =
         (ap (wrong_rows (λ (e : Entry). e.row)) same ∙ rows_entered rows ∙ r, tt),
       ),
     )
+
+-- what a sheet made of right AFs rests on
+pub ruleset entering = (names_entered, rows_entered, length_entered, sound, one_ok)

@@ -48,3 +48,6 @@ reached_each rank (n ∷ ns) zero h = grind (arith, nat_tests)
 reached_each rank (n ∷ ns) (suc k) h =
     let half : reached rank (n ∷ ns) / 2 ≡ reached rank ns = let c : cond (leb n rank) 1 0 ≤ 1 = grind (arith, nat_tests) in omega arith in
     ap (λ (b : ℕ). eqb b 1) (bit_at-suc (reached rank (n ∷ ns)) k) ∙ ap (λ (m : ℕ). has m k) half ∙ reached_each rank ns k (omega arith)
+
+-- what one more need says of the fields that are reached
+pub ruleset reaching = (reached_here, reached_not, reached_below)

@@ -13,7 +13,7 @@ pub(crate) fn has_above_three(numbers: &[u8]) -> bool
 }
 
 /// The fields whose need is at most the rank.
-#[tactic(auto, using(crate::proofs::Reached::reached_here, crate::proofs::Reached::reached_not, crate::proofs::Reached::reached_below))]
+#[tactic(auto, using(crate::proofs::Reached::reaching))]
 fn reach(needs: &[u8; 10], rank: u8) -> FieldSet
     ensures { result.bits ≡ reached rank needs.now }
 {

@@ -24,7 +24,7 @@ impl AfSheet {
     ghost use Rattle.rulebook.specs.Listed.{listing};
 
     /// The sheet of the application functions that are entered, in their order.
-    #[tactic(auto, using(crate::proofs::Entered::names_entered, crate::proofs::Entered::rows_entered, crate::proofs::Entered::length_entered))]
+    #[tactic(auto, using(crate::proofs::Entered::entering))]
     pub fn new(afs: &[AfRow<'_>]) -> Result<AfSheet, Refusal>
         ensures { told listing result ≡ judged (sheet_refusals (entered afs.now)) (entered afs.now) }
     {
