@@ -80,45 +80,57 @@ fn judge_all<W: Write>(
     Ok(tally)
 }
 
-/// The arguments: none, or a name and a time; or else the help is wanted.
-fn read_arguments(rt: &HostRuntime) -> anyhow::Result<Option<Asker>> {
+/// What the arguments ask for.
+#[derive(Drop)]
+enum Arguments {
+    Help,
+    /// To judge messages alone, or to read them as requests of this application function too.
+    Judge(Option<Asker>),
+}
+
+fn read_arguments(rt: &HostRuntime) -> anyhow::Result<Arguments> {
     let mut args = env::args(rt)?;
     let _program = args.next();
     let Some(name) = args.next() else {
-        return Ok(None);
+        return Ok(Arguments::Judge(None));
     };
-    let Some(time) = args.next() else {
-        return Err(anyhow!(
-            "a name and a time are wanted; without arguments e2check judges messages alone"
-        ));
-    };
-    let Ok(time) = time.as_str().parse::<u32>() else {
-        return Err(anyhow!("the time has to be a number of seconds below 4294967296"));
-    };
-    Ok(Some(Asker { name, time }))
-}
-
-fn wants_help(rt: &HostRuntime) -> io::Result<bool> {
-    let mut args = env::args(rt)?;
-    let _program = args.next();
-    Ok(args.next().is_some_and(|word| word.as_str() == "--help"))
-}
-
-fn run(rt: &HostRuntime) -> anyhow::Result<()> {
-    let mut out = BufWriter::new(rt.alloc(), rt.stdout())?;
-    if wants_help(rt)? {
-        writeln!(out, "{USAGE}")?;
-        out.flush()?;
-        return Ok(());
+    if name.as_str() == "--help" {
+        return Ok(Arguments::Help);
     }
-    let asker = read_arguments(rt)?;
-    let tally = judge_all(rt, &mut out, asker.as_ref())?;
+    let time = args.next().ok_or_else(|| {
+        anyhow!("a name and a time are wanted; without arguments e2check judges messages alone")
+    })?;
+    let time = time.as_str().parse::<u32>().map_err(|_| anyhow!(
+        "the time has to be a number of seconds below 4294967296"
+    ))?;
+    Ok(Arguments::Judge(Some(Asker { name, time })))
+}
+
+/// Judges the input and prints the counts.
+fn judge_input<W: Write>(
+    rt: &HostRuntime,
+    out: &mut W,
+    asker: Option<&Asker>,
+) -> anyhow::Result<()> {
+    let tally = judge_all(rt, out, asker)?;
     write!(out, "{tally}")?;
     out.flush()?;
     if tally.unreadable > 0 {
         return Err(anyhow!("some lines are not hexadecimal"));
     }
     Ok(())
+}
+
+fn run(rt: &HostRuntime) -> anyhow::Result<()> {
+    let mut out = BufWriter::new(rt.alloc(), rt.stdout())?;
+    match read_arguments(rt)? {
+        Arguments::Help => {
+            writeln!(out, "{USAGE}")?;
+            out.flush()?;
+            Ok(())
+        }
+        Arguments::Judge(asker) => judge_input(rt, &mut out, asker.as_ref()),
+    }
 }
 
 fn main(rt: HostRuntime) -> anyhow::Result<()> {

@@ -49,6 +49,7 @@ impl Body<'_> {
 }
 
 /// The set that a request names holds exactly the numbers that its AVPs carry.
+#[tactic(auto, using(crate::proofs::Unions::members))]
 pub fn union_of_all()
     ensures { UnionOfAll }
 {}
