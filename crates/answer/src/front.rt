@@ -120,6 +120,7 @@ fn experimental(code: u32) -> ExperimentalResult
     }
 }
 
+// A section around the two forms: they are at most 32 bytes, and of two types.
 impl Section for ResultAvp {
     ghost bytes = { λ r. result_avp r.0 };
 

@@ -12,6 +12,7 @@ use crate::bytes::{u24_at, u32_at};
 pub struct AvpView<'a> {
     pub code: u32,
     /// 0 where the header names none.
+    // Not an `Option`: an AVP that names vendor 0 has the same name as one that names none.
     pub vendor: u32,
     pub flags: u8,
     /// The AVP's data.

@@ -20,6 +20,7 @@ pub trait Section {
     ghost most: { ℕ };
 
     /// How many they are.
+    // The bound is asked at each call: of a pair's sum no type says it.
     fn size(&self) -> usize
         requires { most ≤ buffer_least }
         ensures is { result ≡ length (bytes self.now) }

@@ -37,6 +37,7 @@ pub fn left_alike()
 {}
 
 /// Isolation shuts out each of five ways to leak.
+#[tactic(auto, using(crate::proofs::Guarded::leaks_shut_out))]
 pub fn leaks_shut_out()
     ensures { LeaksShutOut }
 {}

@@ -65,6 +65,7 @@ impl<'a> Body<'a> {
     pub(crate) fn repeat(self) -> Option<AvpView<'a>>
         ensures { found result ≡ repeated (λ _. false) (avps self.entry.bytes.now) }
     {
+        // An array by the place in the dictionary, not a set of std: no call takes memory.
         let mut seen = [false; Known::COUNT];
         for avp in self.avps() {
             if let Some(known) = Known::named(avp.code, avp.vendor) {

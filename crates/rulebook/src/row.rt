@@ -13,7 +13,7 @@ pub struct Row {
 }
 
 /// An application function as it is entered into a sheet.
-// Its rights are two plain numbers, as in `Row`: this is the interface, and nothing is known of them yet.
+// Not a `Row` beside the name: who enters an application function gives three things, and the numbers are not checked yet.
 #[derive(Clone, Copy)]
 pub struct AfRow<'a> {
     pub name: &'a [u8],

@@ -36,6 +36,7 @@ pub trait Place: Sized {
 }
 
 /// A place that a `C` changes, where it stands. A change may free the place, and keeps the key otherwise.
+// Not a closure: what a change makes of a place is a member here, and would be a premise of each promise below.
 pub trait Change<C>: Place {
     ghost changed: { C → Self → Self };
 

@@ -27,6 +27,7 @@ pub fn head_size(flags: u8) -> usize
 pub fn padding(size: usize) -> usize
     ensures { result ≡ padding size }
 {
+    // Not by `next_multiple_of`, which passes the end of a `usize` at the last sizes.
     (4 - size % 4) % 4
 }
 
@@ -35,7 +36,7 @@ pub fn avp_size(flags: u8, size: usize) -> usize
     requires { head_size flags + size < 2 ^ 24 }
     ensures { result ≡ avp_size flags size }
 {
-    (head_size(flags) + size + 3) / 4 * 4
+    (head_size(flags) + size).next_multiple_of(4)
 }
 
 impl Writer<'_> {
