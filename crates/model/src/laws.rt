@@ -32,6 +32,7 @@ pub fn pair_alike()
 {}
 
 /// A history and that of only those of its calls that are left for an application function are alike for it.
+#[tactic(auto, using(crate::proofs::Remaining::left_alike))]
 pub fn left_alike()
     ensures { LeftAlike }
 {}
@@ -43,6 +44,7 @@ pub fn leaks_shut_out()
 {}
 
 /// Accounts shut out an invented loss, and a second subscriber who is not served.
+#[tactic(auto, using(crate::proofs::Guarded::miscounts_shut_out))]
 pub fn miscounts_shut_out()
     ensures { MiscountsShutOut }
 {}

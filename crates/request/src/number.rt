@@ -24,6 +24,7 @@ fn member_of<const WIDTH: u32, F: Fn(u32) -> Option<u8>>(
     if !carrier.passes(avp) {
         return BitSet::empty();
     }
+    // Not `and_then`: the borrow checker does not cover it with a function whose result names the width.
     match meaning(word(avp.payload)) {
         Some(number) => BitSet::only(number).unwrap_or(BitSet::empty()),
         None => BitSet::empty(),

@@ -35,6 +35,7 @@ fn refuse_with<'a>(refusal: Refusal, avp: Option<AvpView<'a>>) -> Result<(), Rej
 }
 
 /// Refuses a request without this AVP, where there is one.
+// Not one function over `Option<FaultyAvp>`: the borrow checker does not cover `map(FaultyAvp::Present)` at the call.
 fn refuse_without<'a>(missing: Option<Known>) -> Result<(), Rejection<'a>>
     ensures { MatchResult result (λ _. missing ≡ None) (λ r. Some (rejected_of r) ≡ with_first (option_map lacks missing) Refusal.MissingAvp None) }
 {
@@ -112,6 +113,7 @@ impl<'a> Body<'a> {
             Known::DestinationRealm,
             Known::AfApplicationIdentifier,
         ];
+        // Not `or_else`: what its closure promises comes out empty, and what is computed here is little.
         needed
             .iter()
             .copied()
