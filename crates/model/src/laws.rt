@@ -21,7 +21,6 @@ pub fn isolation()
 {}
 
 /// Whenever an application function of the sheet asks for its counts, they are those of its ledger, and sum up to the events that fell due to it.
-#[tactic(auto, using(crate::proofs::Balanced::accounts))]
 pub fn accounts()
     ensures { Accounts }
 {}
