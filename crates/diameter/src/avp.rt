@@ -7,6 +7,14 @@ ghost use Rattle.diameter.specs.Views.{Splits};
 
 use crate::bytes::{u24_at, u32_at};
 
+/// The name of an AVP.
+#[derive(Clone, Copy, PartialEq, Eq, Debug)]
+pub struct AvpName {
+    pub code: u32,
+    /// 0 where the header names none.
+    pub vendor: u32,
+}
+
 /// An AVP of a message, which borrows its bytes.
 #[derive(Clone, Copy)]
 pub struct AvpView<'a> {
@@ -33,6 +41,15 @@ impl AvpView<'_> {
         ensures { result ≡ flagged 0x40 self.entry.flags }
     {
         self.flags & Self::MANDATORY != 0
+    }
+
+    pub fn name(self) -> AvpName
+        ensures { result ≡ record { code = self.entry.code; vendor = self.entry.vendor } }
+    {
+        AvpName {
+            code: self.code,
+            vendor: self.vendor,
+        }
     }
 }
 
@@ -92,12 +109,11 @@ pub fn split_avp<'a>(bytes: &'a [u8]) -> Option<(AvpView<'a>, &'a [u8])>
 }
 
 /// Whether the AVP of this name is a group: its data are AVPs in turn.
-// Code and vendor as a header has them: a type for the two would be made for the call and taken apart in it.
-pub fn is_group(code: u32, vendor: u32) -> bool
-    ensures { result ≡ group code vendor }
+pub fn is_group(name: AvpName) -> bool
+    ensures { result ≡ group name.code name.vendor }
 {
     matches!(
-        (vendor, code),
+        (name.vendor, name.code),
         (0, 260 | 279 | 284 | 297) | (13019, 300 | 303 | 304 | 306 | 350 | 357 | 358)
     )
 }

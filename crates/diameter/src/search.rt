@@ -3,7 +3,7 @@ ghost use Rattle.std.specs.Prelude.{◌≡◌, Bool};
 ghost use Rattle.diameter.specs.Lists.{Avp, avps, first_such, count_such, only_such, named};
 ghost use Rattle.diameter.specs.Views.{avp_of, found};
 
-use crate::avp::AvpView;
+use crate::avp::{AvpName, AvpView};
 use crate::avps::Avps;
 
 /// A test of one AVP.
@@ -40,17 +40,11 @@ pub fn only_such<'a, P: AvpTest>(test: &P, bytes: &'a [u8]) -> Option<AvpView<'a
     }
 }
 
-/// The test for a code and a vendor.
-#[derive(Clone, Copy)]
-pub struct Named {
-    pub code: u32,
-    pub vendor: u32,
-}
-
-impl AvpTest for Named {
+/// As a test of AVPs a name passes those that it names.
+impl AvpTest for AvpName {
     ghost holds = { λ n. named n.code n.vendor };
 
     fn passes(&self, avp: AvpView<'_>) -> bool {
-        avp.code == self.code && avp.vendor == self.vendor
+        avp.name() == *self
     }
 }

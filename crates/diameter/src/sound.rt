@@ -12,7 +12,7 @@ pub fn is_sound(bytes: &[u8], levels: u8) -> bool
     let mut avps = Avps::new(bytes);
     // Not a `for` over `&mut avps`: what such a loop leaves in `avps` is not proved, and at the end that decides.
     while let Some(avp) = avps.next() {
-        if is_group(avp.code, avp.vendor) && (levels == 0 || !is_sound(avp.payload, levels - 1)) {
+        if is_group(avp.name()) && (levels == 0 || !is_sound(avp.payload, levels - 1)) {
             return false;
         }
     }
@@ -22,7 +22,8 @@ pub fn is_sound(bytes: &[u8], levels: u8) -> bool
 #[cfg(test)]
 mod tests {
     use super::*;
-    use crate::search::{Named, count_such, first_such};
+    use crate::avp::AvpName;
+    use crate::search::{count_such, first_such};
 
     // The worked example of the documentation: a Session-Id `x` with its padding, and an address group of two AVPs.
     const SEQUENCE: [u8; 52] = [
@@ -42,7 +43,7 @@ mod tests {
         );
         assert_eq!(rt;
             count_such(
-                &Named {
+                &AvpName {
                     code: 263,
                     vendor: 0,
                 },
@@ -51,13 +52,13 @@ mod tests {
             1
         );
         assert_eq!(rt;
-            count_such(&Named { code: 8, vendor: 0 }, &SEQUENCE),
+            count_such(&AvpName { code: 8, vendor: 0 }, &SEQUENCE),
             0,
             "it stands inside the group"
         );
         assert!(rt;
             first_such(
-                &Named {
+                &AvpName {
                     code: 300,
                     vendor: 13019,
                 },

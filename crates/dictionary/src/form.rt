@@ -62,7 +62,7 @@ impl Known {
 pub fn form_of(avp: AvpView<'_>, after: Option<Time>) -> Form
     ensures { result ≡ form after avp.entry.code avp.entry.vendor avp.entry.payload.now }
 {
-    match Known::named(avp.code, avp.vendor) {
+    match Known::named(avp.name()) {
         None => Form::Unknown,
         Some(known) if known.fits(avp.payload, after) => Form::Right(known),
         Some(known) => Form::Wrong(known),

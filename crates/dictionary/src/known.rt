@@ -4,7 +4,7 @@ ghost use Rattle.dictionary.specs.Names.{known, code, vendor, flags, shortest, i
 ghost use Rattle.dictionary.specs.Laws.{NamesAgree};
 ghost use Rattle.diameter.specs.Lists.{named};
 
-use diameter::avp::AvpView;
+use diameter::avp::{AvpName, AvpView};
 use diameter::search::AvpTest;
 
 /// An AVP that a request may hold.
@@ -34,11 +34,11 @@ impl Known {
     /// How many there are.
     pub const COUNT: usize = 18;
 
-    /// The known AVP of this code and this vendor, where there is one.
-    pub fn named(code: u32, vendor: u32) -> Option<Known>
-        ensures { result ≡ known code vendor }
+    /// The known AVP of this name, where there is one.
+    pub fn named(name: AvpName) -> Option<Known>
+        ensures { result ≡ known name.code name.vendor }
     {
-        let known = match (vendor, code) {
+        let known = match (name.vendor, name.code) {
             (0, 1) => Known::UserName,
             (0, 8) => Known::FramedIpAddress,
             (0, 260) => Known::VendorSpecificApplicationId,
@@ -100,6 +100,15 @@ impl Known {
         }
     }
 
+    pub fn name(self) -> AvpName
+        ensures { result ≡ record { code = code self; vendor = vendor self } }
+    {
+        AvpName {
+            code: self.code(),
+            vendor: self.vendor(),
+        }
+    }
+
     /// The flags that we write with the AVP.
     pub fn flags(self) -> u8
         ensures { result ≡ flags self }
@@ -155,7 +164,7 @@ impl AvpTest for Known {
     ghost holds = { λ k. named (code k) (vendor k) };
 
     fn passes(&self, avp: AvpView<'_>) -> bool {
-        avp.code == self.code() && avp.vendor == self.vendor()
+        avp.name() == self.name()
     }
 }
 

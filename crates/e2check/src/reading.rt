@@ -1,5 +1,5 @@
 //! What is printed of a request that was read, or of its refusal.
-use diameter::avp::AvpView;
+use diameter::avp::AvpName;
 use dictionary::address::AddressView;
 use fieldset::BitSet;
 use request::asking::{Asked, FaultyAvp, Rejection, Request, Target};
@@ -87,14 +87,11 @@ impl fmt::Display for Subject<'_> {
 
 /// The name of an AVP.
 #[derive(Clone, Copy)]
-struct Name {
-    code: u32,
-    vendor: u32,
-}
+struct Name(AvpName);
 
 impl fmt::Display for Name {
     fn fmt<W: fmt::Write>(&self, f: &mut fmt::Formatter<W>) -> fmt::Result {
-        let Name { code, vendor } = *self;
+        let AvpName { code, vendor } = self.0;
         if vendor == 0 {
             write!(f, ": AVP {code}")
         } else {
@@ -116,16 +113,8 @@ impl fmt::Display for Told<'_, '_> {
             }
             Err(rejection) => match rejection.faulty {
                 None => Ok(()),
-                Some(FaultyAvp::Present(AvpView { code, vendor, .. })) => {
-                    write!(f, "{}", Name { code, vendor })
-                }
-                Some(FaultyAvp::Missing(known)) => {
-                    let name = Name {
-                        code: known.code(),
-                        vendor: known.vendor(),
-                    };
-                    write!(f, "{name}")
-                }
+                Some(FaultyAvp::Present(avp)) => write!(f, "{}", Name(avp.name())),
+                Some(FaultyAvp::Missing(known)) => write!(f, "{}", Name(known.name())),
             },
         }
     }

@@ -17,7 +17,7 @@ use dictionary::number::Time;
 fn is_unsupported(avp: AvpView<'_>) -> bool
     ensures { result ≡ unsupported (avp_of avp.entry) }
 {
-    avp.is_mandatory() && Known::named(avp.code, avp.vendor).is_none()
+    avp.is_mandatory() && Known::named(avp.name()).is_none()
 }
 
 /// The AVP itself, or the first directly in it where it is an address, that has to be understood and is unknown.
@@ -68,7 +68,7 @@ impl<'a> Body<'a> {
         // An array by the place in the dictionary, not a set of std: no call takes memory.
         let mut seen = [false; Known::COUNT];
         for avp in self.avps() {
-            if let Some(known) = Known::named(avp.code, avp.vendor) {
+            if let Some(known) = Known::named(avp.name()) {
                 let place = known.index() as usize;
                 if is_repeat(known, seen[place]) {
                     return Some(avp);
