@@ -5,11 +5,13 @@ ghost use Rattle.model.specs.Laws.{RefusedKeeps, NothingIsWaiting, ShownExactly,
 ghost use Rattle.model.specs.Histories.{Isolation, Accounts};
 
 /// What the calls of a day return, computed.
+#[tactic(auto, using(crate::proofs::Computed::worked_day))]
 pub fn worked_day()
     ensures { WorkedDay }
 {}
 
 /// Seventeen events fall due and none is taken: 16 wait, and 1 is lost.
+#[tactic(auto, using(crate::proofs::Computed::seventeen_due))]
 pub fn seventeen_due()
     ensures { SeventeenDue }
 {}
@@ -26,6 +28,7 @@ pub fn accounts()
 {}
 
 /// Two histories over two rule books that differ in what is hidden from an application function are alike for it, and it is shown two fields in both.
+#[tactic(auto, using(crate::proofs::Guarded::pair_alike))]
 pub fn pair_alike()
     ensures { PairAlike }
 {}
@@ -49,26 +52,31 @@ pub fn miscounts_shut_out()
 {}
 
 /// The place that a new entry takes is one that is free, and there is one when some place is free.
+#[tactic(auto, using(crate::proofs::Guarded::places_chosen))]
 pub fn places_chosen()
     ensures { PlacesChosen }
 {}
 
 /// A call that is refused leaves everything as it was.
+#[tactic(auto, using(crate::proofs::Kept::refused_keeps))]
 pub fn refused_keeps()
     ensures { RefusedKeeps }
 {}
 
 /// Take says that nothing waits exactly when all else is in order and nothing waits.
+#[tactic(auto, using(crate::proofs::Kept::nothing_waiting))]
 pub fn nothing_waiting()
     ensures { NothingIsWaiting }
 {}
 
 /// An ask shows exactly the fields that are requested, in the view and stored.
+#[tactic(auto, using(crate::proofs::Shown::shown_exactly))]
 pub fn shown_exactly()
     ensures { ShownExactly }
 {}
 
 /// What one application function asks, takes, settles or is told leaves the record of every other as it was: serials move independently.
+#[tactic(auto, using(crate::proofs::Counts::records_apart))]
 pub fn records_apart()
     ensures { RecordsApart }
 {}
