@@ -24,10 +24,7 @@ impl<'s, S: FieldSource> Shown<'s, S> {
         ensures fits { length (S.value self.entry.source.now (number field)) ≤ field_limit (number field) }
         ensures is { ⟦<Avp<Field, Octets<'s>> as Section>⟧.bytes result ≡ part_bytes (field_part (number field) (S.value self.entry.source.now (number field))) }
     {
-        Avp {
-            kind: field,
-            data: Octets::new(self.source.value(field)),
-        }
+        Avp::of(field, self.source.value(field))
     }
 }
 

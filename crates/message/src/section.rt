@@ -127,6 +127,20 @@ pub struct Avp<K, D> {
     pub data: D,
 }
 
+impl<'a, K> Avp<K, Octets<'a>> {
+    /// An AVP of a kind around these bytes.
+    pub fn of(kind: K, octets: &'a [u8]) -> Self
+        requires { length octets.now ≤ session_limit }
+        ensures kind { result.kind ≡ kind }
+        ensures octets { result.data.octets.now ≡ octets.now }
+    {
+        Avp {
+            kind,
+            data: Octets::new(octets),
+        }
+    }
+}
+
 impl<K: AvpKind, D: Section> Section for Avp<K, D> {
     ghost bytes = { λ a. avp (K.head a.kind).code (K.head a.kind).flags (K.head a.kind).vendor (D.bytes a.data) };
 

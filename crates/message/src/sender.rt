@@ -47,14 +47,8 @@ impl<'a> Sender<'a> {
             kind: Known::AuthSessionState,
             data: NO_STATE,
         };
-        let host = Avp {
-            kind: Known::OriginHost,
-            data: Octets::new(self.0.host()),
-        };
-        let realm = Avp {
-            kind: Known::OriginRealm,
-            data: Octets::new(self.0.realm()),
-        };
+        let host = Avp::of(Known::OriginHost, self.0.host());
+        let realm = Avp::of(Known::OriginRealm, self.0.realm());
         (state, (host, realm))
     }
 }

@@ -49,14 +49,8 @@ impl<'a> Place<'a> {
     fn data(self) -> (KnownAvp<'a>, KnownAvp<'a>)
         ensures { ⟦<(KnownAvp<'a>, KnownAvp<'a>) as Section>⟧.bytes result ≡ address_data (address_of self.entry.address) }
     {
-        let ip = Avp {
-            kind: Known::FramedIpAddress,
-            data: Octets::new(self.address.ip),
-        };
-        let realm = Avp {
-            kind: Known::AddressRealm,
-            data: Octets::new(self.address.realm),
-        };
+        let ip = Avp::of(Known::FramedIpAddress, self.address.ip);
+        let realm = Avp::of(Known::AddressRealm, self.address.realm);
         (ip, realm)
     }
 
@@ -99,10 +93,7 @@ impl<'a> Notice<'a> {
             return None;
         }
         let kind = Field::try_from(self.event).ok()?;
-        Some(Avp {
-            kind,
-            data: Octets::new(self.value),
-        })
+        Some(Avp::of(kind, self.value))
     }
 }
 
@@ -111,14 +102,8 @@ impl<'n, 'p> Recipient<'n, 'p> {
     pub(crate) fn peer_avps(self) -> (KnownAvp<'p>, KnownAvp<'p>)
         ensures { ⟦<(KnownAvp<'p>, KnownAvp<'p>) as Section>⟧.bytes result ≡ peer_avps self.entry.peer.host.now self.entry.peer.realm.now }
     {
-        let host = Avp {
-            kind: Known::DestinationHost,
-            data: Octets::new(self.peer.host()),
-        };
-        let realm = Avp {
-            kind: Known::DestinationRealm,
-            data: Octets::new(self.peer.realm()),
-        };
+        let host = Avp::of(Known::DestinationHost, self.peer.host());
+        let realm = Avp::of(Known::DestinationRealm, self.peer.realm());
         (host, realm)
     }
 
@@ -126,9 +111,6 @@ impl<'n, 'p> Recipient<'n, 'p> {
     pub(crate) fn name_avp(self) -> KnownAvp<'n>
         ensures { ⟦<KnownAvp<'n> as Section>⟧.bytes result ≡ avp 504 0xC0 10415 self.entry.name.now }
     {
-        Avp {
-            kind: Known::AfApplicationIdentifier,
-            data: Octets::new(self.name),
-        }
+        Avp::of(Known::AfApplicationIdentifier, self.name)
     }
 }
