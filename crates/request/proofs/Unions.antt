@@ -40,7 +40,3 @@ members_from carrier meaning bits (a ∷ later) k =
 
 pub members : (carrier : Known) (meaning : ℕ → Option ℕ) (l : List Avp) (k : ℕ) → has (union carrier meaning 0 l) k ≡ carried_by_some carrier meaning k l
 members carrier meaning l k = members_from carrier meaning 0 l k ∙ ap (λ (b : Bool). b || carried_by_some carrier meaning k l) (has_nothing k)
-
--- what a adds, where b says whether it has the name, and o what its number stands for
-pub adds_is : (carrier : Known) (meaning : ℕ → Option ℕ) (a : Avp) (b : Bool) (o : Option ℕ) → b ≡ is carrier a → o ≡ meaning (word a.payload) → cond b (bit_of o) 0 ≡ adds carrier meaning a
-adds_is carrier meaning a b o p q = λ i. cond (p i) (bit_of (q i)) 0

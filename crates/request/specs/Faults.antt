@@ -1,6 +1,7 @@
 -- What can be wrong with the AVPs of a request: refusals 9 to 13, each by itself.
 --     kind a                   which known AVP a is
 --     stranger l               9: the first AVP that has to be understood and is unknown, at level 1 or directly in an address
+--     stranger_in a            the one that a gives: a itself, or the first directly in it where it is an address
 --     repeated seen l          10: the first AVP that may stand once and stands again, where `seen` says which stood before
 --     missing command l        11: the first AVP, in the order of report, that the command needs and that is not there
 --     misfit after l           12: the first AVP whose data are wrong; an end has to be later than `after`, where there is such a time

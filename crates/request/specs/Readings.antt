@@ -1,6 +1,8 @@
 -- A request read, by the table of its refusals.
 --     faults command name now l     refusals 9 to 13 in the order of trial, each with what it finds
 --     asking command l              what the AVPs ask, where none of these finds anything
+--     fields l, events l            the fields and the events that the AVPs name, as bits
+--     Computes calls meaning width  each call answers what the number means, and a set of that width has a place for it
 --     session_id m                  the Session-Id of m, where its AVPs are sound and begin with a right one
 --     reading m name now            what the message m of the application function `name` says at the time now
 use Rattle.std.specs.Prelude.{◌≡◌, ℕ, ◌^◌, ◌<◌, min, IfSome, false, cond, ◌&&◌, List, [], ◌∷◌, Some, None, Ok, Err, Option, Result, bit_or}
