@@ -1,4 +1,5 @@
 pub mod Members
 pub mod Unions
+pub mod Named
 pub mod Taken
 pub mod Lacks

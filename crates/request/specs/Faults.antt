@@ -15,7 +15,7 @@ use Rattle.e2.specs.declared.Command.{Command}
 use Rattle.e2.specs.declared.Command.TheVariants.{UserData, SubscribeNotifications}
 use Rattle.dictionary.specs.Numbers.{word}
 use Rattle.dictionary.specs.Names.{known, code, vendor, repeats, index}
-use Rattle.dictionary.specs.Forms.{form}
+use Rattle.dictionary.specs.Forms.{form, formed}
 use Rattle.dictionary.specs.declared.known.Known.{Known}
 use Rattle.dictionary.specs.declared.known.Known.TheVariants.{UserName, VendorSpecificApplicationId, SessionId, OriginHost, AuthSessionState, DestinationRealm, OriginRealm, GloballyUniqueAddress, EventType, AfApplicationIdentifier, SubsReqType}
 use Rattle.dictionary.specs.declared.form.Form.{Form}
@@ -31,9 +31,12 @@ is k a = named (code k) (vendor k) a
 abbrev pub there : Known → List Avp → Bool
 there k l = is_some (first_such (is k) l)
 
--- 9
+-- 9, where a is known as k
+abbrev pub unsupported_by : Option Known → Avp → Bool
+unsupported_by k a = flagged 0x40 a.flags && not (is_some k)
+
 abbrev pub unsupported : Avp → Bool
-unsupported a = flagged 0x40 a.flags && not (is_some (kind a))
+unsupported a = unsupported_by (kind a) a
 
 -- what stands directly in an address
 abbrev pub parts : Avp → List Avp
@@ -43,8 +46,12 @@ unfoldable pub with_parts : List Avp → List Avp
 with_parts [] = []
 with_parts (a ∷ later) = a ∷ (parts a ++ with_parts later)
 
+-- where a is known as k
+abbrev pub stranger_by : Option Known → Avp → Option Avp
+stranger_by k a = cond (unsupported_by k a) (Some a) (first_such unsupported (parts a))
+
 abbrev pub stranger_in : Avp → Option Avp
-stranger_in a = cond (unsupported a) (Some a) (first_such unsupported (parts a))
+stranger_in a = stranger_by (kind a) a
 
 abbrev pub stranger : List Avp → Option Avp
 stranger l = first_such unsupported (with_parts l)
@@ -108,6 +115,10 @@ is_wrong (Wrong k) = true
 
 abbrev pub wrong : Option ℕ → Avp → Bool
 wrong after a = is_wrong (form after a.code a.vendor a.payload)
+
+-- a itself, where it is known as k and its data are wrong
+abbrev pub misfit_by : Option ℕ → Option Known → Avp → Option Avp
+misfit_by after k a = cond (is_wrong (formed after k a.payload)) (Some a) None
 
 abbrev pub misfit : Option ℕ → List Avp → Option Avp
 misfit after l = first_such (wrong after) l

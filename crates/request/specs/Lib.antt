@@ -2,3 +2,4 @@ pub mod Faults
 pub mod Askings
 pub mod Readings
 pub mod Laws
+pub mod Scans

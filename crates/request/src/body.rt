@@ -46,7 +46,7 @@ impl<'a> Body<'a> {
     pub(crate) fn find(self, known: Known) -> Option<AvpView<'a>>
         ensures { found result ≡ first_such (is known) (avps self.entry.bytes.now) }
     {
-        first_such(&known, self.bytes)
+        first_such(&known.name(), self.bytes)
     }
 
     /// Whether there is an AVP of this name.

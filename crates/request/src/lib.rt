@@ -6,3 +6,4 @@ mod body;
 mod fault;
 pub mod number;
 pub mod reading;
+mod scan;

@@ -2,7 +2,7 @@
 ghost use Rattle.std.specs.Prelude.{◌≡◌, Some, None, MatchOption, MatchResult};
 ghost use Rattle.std.specs.Option.{option_map};
 ghost use Rattle.diameter.specs.Lists.{avps, first_such};
-ghost use Rattle.diameter.specs.Views.{found};
+ghost use Rattle.diameter.specs.Views.{avp_of, found};
 ghost use Rattle.dictionary.specs.Addresses.{address_in};
 ghost use Rattle.fieldset.specs.declared.set.BitSet.{BitSet};
 ghost use Rattle.request.specs.Faults.{is, first, is_session, lacking, needed_by, missing, there, subscribes, deadline, foreign};
@@ -21,15 +21,22 @@ use e2::{Command, REQUEST_LEVELS, check};
 use fieldset::{EventSet, FieldSet};
 use refusal::Refusal;
 
+/// The refusal of a request for this AVP, which stands in it.
+fn refused_for<'a>(refusal: Refusal, avp: AvpView<'a>) -> Rejection<'a>
+    ensures { rejected_of result ≡ record { refusal = refusal; carries = copied (avp_of avp.entry) } }
+{
+    Rejection {
+        refusal,
+        faulty: Some(FaultyAvp::Present(avp)),
+    }
+}
+
 /// Refuses a request with this AVP, where there is one.
 fn refuse_with<'a>(refusal: Refusal, avp: Option<AvpView<'a>>) -> Result<(), Rejection<'a>>
     ensures { MatchResult result (λ _. found avp.entry ≡ None) (λ r. Some (rejected_of r) ≡ with_first (option_map copied (found avp.entry)) refusal None) }
 {
     match avp {
-        Some(avp) => Err(Rejection {
-            refusal,
-            faulty: Some(FaultyAvp::Present(avp)),
-        }),
+        Some(avp) => Err(refused_for(refusal, avp)),
         None => Ok(()),
     }
 }
@@ -82,53 +89,16 @@ impl<'a> Body<'a> {
             .filter(|avp| avp.payload != name)
     }
 
-    /// The first AVP that this command needs beside what every request needs, and that is not there.
-    fn missing_for(self, command: Command) -> Option<Known>
-        ensures { result ≡ lacking (needed_by command (λ k. there k (avps self.entry.bytes.now))) }
-    {
-        if command == Command::SubscribeNotifications {
-            if !self.has(Known::SubsReqType) {
-                return Some(Known::SubsReqType);
-            }
-            if !self.has(Known::EventType) {
-                return Some(Known::EventType);
-            }
-        }
-        let has_subject = self.has(Known::GloballyUniqueAddress) || self.has(Known::UserName);
-        (!has_subject).then_some(Known::GloballyUniqueAddress)
-    }
-
-    /// The first AVP that a request needs and that is not there.
-    fn missing(self, command: Command) -> Option<Known>
-        ensures { result ≡ missing command (avps self.entry.bytes.now) }
-    {
-        if !self.is_headed() {
-            return Some(Known::SessionId);
-        }
-        let needed: &[Known] = &[
-            Known::VendorSpecificApplicationId,
-            Known::AuthSessionState,
-            Known::OriginHost,
-            Known::OriginRealm,
-            Known::DestinationRealm,
-            Known::AfApplicationIdentifier,
-        ];
-        // Not `or_else`: what its closure promises comes out empty, and what is computed here is little.
-        needed
-            .iter()
-            .copied()
-            .find(|known| !self.has(*known))
-            .or(self.missing_for(command))
-    }
-
     /// Refuses a request for the first fault of its AVPs, where there is one.
     fn check(self, command: Command, name: &[u8], time: Time) -> Result<(), Rejection<'a>>
         ensures { refused result ≡ first_fault (faults command name.now time (avps self.entry.bytes.now)) }
     {
-        refuse_with(Refusal::UnsupportedAvp, self.stranger())?;
-        refuse_with(Refusal::RepeatedAvp, self.repeat())?;
-        refuse_without(self.missing(command))?;
-        refuse_with(Refusal::WrongAvp, self.misfit(self.deadline(command, time)))?;
+        let scan = self
+            .scan(self.deadline(command, time))
+            .map_err(|stranger| refused_for(Refusal::UnsupportedAvp, stranger))?;
+        refuse_with(Refusal::RepeatedAvp, scan.repeat)?;
+        refuse_without(scan.missing(command, self.is_headed()))?;
+        refuse_with(Refusal::WrongAvp, scan.misfit)?;
         refuse_with(Refusal::WrongAf, self.foreign(name))
     }
 
