@@ -11,17 +11,16 @@ struct Printable<'a>(&'a [u8]);
 
 impl fmt::Display for Printable<'_> {
     fn fmt<W: fmt::Write>(&self, f: &mut fmt::Formatter<W>) -> fmt::Result {
-        if self.0.iter().all(|c| c.is_ascii_graphic()) {
-            for c in self.0 {
-                f.write_char(char::from(*c))?;
+        match str::from_utf8(self.0) {
+            Ok(text) if text.bytes().all(|c| c.is_ascii_graphic()) => f.write_str(text),
+            _ => {
+                f.write_str("0x")?;
+                for c in self.0 {
+                    write!(f, "{c:02x}")?;
+                }
+                Ok(())
             }
-            return Ok(());
         }
-        f.write_str("0x")?;
-        for c in self.0 {
-            write!(f, "{c:02x}")?;
-        }
-        Ok(())
     }
 }
 

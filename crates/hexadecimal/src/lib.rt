@@ -16,7 +16,7 @@ pub enum DecodeError {
     /// In this column, counted from 1, stands no digit, or the text ends where a second digit is due.
     #[error("not hexadecimal at column {0}")]
     NotHex(usize),
-    #[error("no memory for the bytes")]
+    #[error("out of memory")]
     NoMemory,
 }
 
