@@ -42,6 +42,7 @@ impl<A: Section, B: Section> Section for (A, B) {
         self.0.size() + self.1.size()
     }
 
+    #[inline(always)]
     fn put(&self, w: &mut Writer<'_>) {
         self.0.put(w);
         self.1.put(w);
@@ -150,6 +151,7 @@ impl<K: AvpKind, D: Section> Section for Avp<K, D> {
         avp_size(self.kind.head().flags, self.data.size())
     }
 
+    #[inline(always)]
     fn put(&self, w: &mut Writer<'_>) {
         let size = self.data.size();
         w.avp_header(self.kind.head(), size);

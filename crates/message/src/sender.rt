@@ -63,6 +63,7 @@ impl Section for Sender<'_> {
         self.avps().size()
     }
 
+    #[inline(always)]
     fn put(&self, w: &mut Writer<'_>) {
         self.avps().put(w);
     }
