@@ -120,7 +120,7 @@ fn missing_avp(known: Known) -> MissingAvp
 impl Section for Failed<'_> {
     ghost bytes = { λ f. failed_avp (fault_of f.faulty) };
 
-    ghost most = { 15 + copy_limit };
+    ghost most = { 8 + copy_limit };
 
     fn size(&self) -> usize {
         match self.faulty {

@@ -75,7 +75,7 @@ impl<'m> SessionId<'m> {
 impl Section for SessionId<'_> {
     ghost bytes = { λ s. session_avp s.0.octets.now };
 
-    ghost most = { 15 + session_limit };
+    ghost most = { 8 + session_limit };
 
     fn size(&self) -> usize {
         self.avp().size()
