@@ -75,7 +75,7 @@ pub fn put_address(w: &mut Writer<'_>, address: AddressView<'_>)
 
 impl<'a> Notice<'a> {
     /// The Event-Type and the address.
-    pub(crate) fn event_avps(self) -> (Avp<Known, u32>, AddressAvp<'a>)
+    fn event_avps(self) -> (Avp<Known, u32>, AddressAvp<'a>)
         ensures { ⟦<(Avp<Known, u32>, AddressAvp<'a>) as Section>⟧.bytes result ≡ event_avps self.entry.event (address_of self.entry.place.address) }
     {
         let event = Avp {
@@ -86,7 +86,7 @@ impl<'a> Notice<'a> {
     }
 
     /// The AVP of the field that the event is a change of, where its value is not empty.
-    pub(crate) fn told_avp(self) -> Option<Avp<Field, Octets<'a>>>
+    fn told_avp(self) -> Option<Avp<Field, Octets<'a>>>
         ensures { ⟦<Option<Avp<Field, Octets<'a>>> as Section>⟧.bytes result ≡ field_avp self.entry.event self.entry.value.now }
     {
         if self.event == 0 || self.event > 8 || self.value.is_empty() {
@@ -99,7 +99,7 @@ impl<'a> Notice<'a> {
 
 impl<'n, 'p> Recipient<'n, 'p> {
     /// The Destination-Host and the Destination-Realm.
-    pub(crate) fn peer_avps(self) -> (KnownAvp<'p>, KnownAvp<'p>)
+    fn peer_avps(self) -> (KnownAvp<'p>, KnownAvp<'p>)
         ensures { ⟦<(KnownAvp<'p>, KnownAvp<'p>) as Section>⟧.bytes result ≡ peer_avps self.entry.peer.host.now self.entry.peer.realm.now }
     {
         let host = Avp::of(Known::DestinationHost, self.peer.host());
@@ -112,5 +112,61 @@ impl<'n, 'p> Recipient<'n, 'p> {
         ensures { ⟦<KnownAvp<'n> as Section>⟧.bytes result ≡ avp 504 0xC0 10415 self.entry.name.now }
     {
         Avp::of(Known::AfApplicationIdentifier, self.name)
+    }
+}
+
+// A section around what each of the next three holds: it keeps the bound of its bytes tight, where the types of the AVPs alone say more.
+
+/// The Event-Type and the address of a notice.
+#[derive(Clone, Copy)]
+pub(crate) struct Event<'a>(pub(crate) Notice<'a>);
+
+impl Section for Event<'_> {
+    ghost bytes = { λ s. event_avps s.0.event (address_of s.0.place.address) };
+
+    ghost most = { 84 };
+
+    fn size(&self) -> usize {
+        self.0.event_avps().size()
+    }
+
+    fn put(&self, w: &mut Writer<'_>) {
+        self.0.event_avps().put(w);
+    }
+}
+
+/// The field that a notice tells of, where it tells of one.
+#[derive(Clone, Copy)]
+pub(crate) struct Told<'a>(pub(crate) Notice<'a>);
+
+impl Section for Told<'_> {
+    ghost bytes = { λ s. field_avp s.0.event s.0.value.now };
+
+    ghost most = { 60 };
+
+    fn size(&self) -> usize {
+        self.0.told_avp().size()
+    }
+
+    fn put(&self, w: &mut Writer<'_>) {
+        self.0.told_avp().put(w);
+    }
+}
+
+/// The Destination-Host and the Destination-Realm of an application function.
+#[derive(Clone, Copy)]
+pub(crate) struct Peer<'n, 'p>(pub(crate) Recipient<'n, 'p>);
+
+impl Section for Peer<'_, '_> {
+    ghost bytes = { λ s. peer_avps s.0.peer.host.now s.0.peer.realm.now };
+
+    ghost most = { 144 };
+
+    fn size(&self) -> usize {
+        self.0.peer_avps().size()
+    }
+
+    fn put(&self, w: &mut Writer<'_>) {
+        self.0.peer_avps().put(w);
     }
 }

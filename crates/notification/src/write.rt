@@ -5,7 +5,7 @@ ghost use Rattle.notification.specs.Notifications.{notification_bytes};
 ghost use Rattle.notification.specs.Notices.{notification_of};
 
 use crate::notice::{Notice, Recipient};
-use crate::part::SessionText;
+use crate::part::{Event, Peer, SessionText, Told};
 use diameter::header::Header;
 use dictionary::known::Known;
 use message::Origin;
@@ -56,8 +56,8 @@ pub fn write_notification(
             serial,
         },
     };
-    let news = (notice.event_avps(), (to.name_avp(), notice.told_avp()));
-    let peers = (Sender(origin), (to.peer_avps(), news));
+    let news = (Event(notice), (to.name_avp(), Told(notice)));
+    let peers = (Sender(origin), (Peer(to), news));
     let body = (session, (ApplicationId, peers));
     let header = notification_header(Header::SIZE + body.size(), serial);
     write_message(out, header, &body)

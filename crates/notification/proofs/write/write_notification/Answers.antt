@@ -2,7 +2,7 @@ use Rattle.std.proofs.Common.{◌≡◌, ℕ, ◌+◌, ◌++◌, length, sym, ap
 use Rattle.writer.specs.Avps.{avp}
 use Rattle.writer.specs.Headers.{message_header, header_bytes}
 use Rattle.message.specs.Messages.{application_avp, sender_avps}
-use Rattle.notification.specs.Notifications.{Notification, session_of, notification_body, notification_bytes}
+use Rattle.notification.specs.Notifications.{Notification, session_of, field_avp, peer_avps, event_avps, notification_body, notification_bytes}
 use Rattle.notification.specs.Notices.{notification_of}
 use Rattle.notification.proofs.Lengths.{length_whole}
 use Rattle.notification.proofs.write.write_notification.Goals as goal
@@ -13,7 +13,10 @@ returns c =
     let n : Notification = notification_of c.args.origin c.args.to c.args.notice c.args.serial in
     let body : _ ≡ notification_body n =
     λ i. avp 263 0x40 0 (session_of n.host n.number n.serial)
-    ++ (application_avp ++ (sender_avps n.host n.realm ++ (c.peer_avps.ensures i ++ (c.event_avps.ensures i ++ (c.name_avp.ensures i ++ c.told_avp.ensures i))))) in
+    ++ (application_avp
+    ++ (sender_avps n.host n.realm
+    ++ (peer_avps n.peer_host n.peer_realm
+    ++ (event_avps n.event n.address ++ (c.name_avp.ensures i ++ field_avp n.event n.value))))) in
     let size : 20 + c.size.result ≡ 20 + length (notification_body n) = ap (λ (k : ℕ). 20 + k) (c.size.ensures.is ∙ ap length body) in
     record {
       bytes =
