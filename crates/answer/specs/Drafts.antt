@@ -10,5 +10,5 @@ use Rattle.answer.specs.declared.draft.Closed.{Closed}
 abbrev pub answer_of : {S : Type 0} → (S → ℕ → List ℕ) → Draft S → Answer
 answer_of values d = said_by values d.content
 
-abbrev pub closed_of : {S : Type 0} → {g : _} → (S → ℕ → List ℕ) → Closed S g → Answer
+abbrev pub closed_of : {S : Type 0} → (S → ℕ → List ℕ) → Closed S → Answer
 closed_of values k = said_by values k.content

@@ -107,8 +107,9 @@ impl<S: FieldSource> Closed<'_, '_, '_, S> {
         ensures size { result ≡ length (answer_bytes (closed_of S.value self.entry)) }
         ensures within { result ≤ buffer_least }
     {
-        let Closed { content, size } = self;
-        let header = answer_header(content.request, content.code, size);
+        // The length is counted anew: without a bound on the type, no invariant says that it is `size`.
+        let Closed { content, size: _ } = self;
+        let header = answer_header(content.request, content.code, content.size());
         write_message(out, header, &content.body())
     }
 }

@@ -9,16 +9,16 @@ use Rattle.answer.proofs.draft.Closed.write.Goals as goal
 pub write_message-requires : goal.write_message-requires
 write_message-requires g c =
     let a : Answer = closed_of g.S.FieldSource.value c.args.self in
-    let size : c.args.self.size ≡ 20 + length (answer_body a) = c.args.self.counted ∙ length_whole a in
+    let size : c.size.result ≡ 20 + length (answer_body a) = c.size.ensures.is ∙ length_whole a in
     let body = ap length c.body.ensures in
-    (omega arith, omega (arith, c.args.self.within))
+    (omega arith, omega (arith, c.size.ensures.within))
 
 pub returns : goal.returns
 unfolding answer_bytes
 returns g c =
     let a : Answer = closed_of g.S.FieldSource.value c.args.self in
     let r : Header = a.request in
-    let size : c.args.self.size ≡ 20 + length (answer_body a) = c.args.self.counted ∙ length_whole a in
+    let size : c.size.result ≡ 20 + length (answer_body a) = c.size.ensures.is ∙ length_whole a in
     let written = c.write_message.ensures.size ∙ ap (λ (q : List ℕ). 20 + length q) c.body.ensures in
     record {
       bytes =
@@ -27,5 +27,5 @@ returns g c =
           ∙ ap (λ (k : ℕ). message_header k (answer_flags r.flags a.result) r.command r.application r.hop_by_hop r.end_to_end ++ answer_body a) size;
       rest = c.write_message.ensures.rest;
       size = written ∙ sym (length_whole a);
-      within = omega (arith, c.args.self.within);
+      within = omega (arith, c.size.ensures.within);
     }
