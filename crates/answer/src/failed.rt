@@ -130,6 +130,7 @@ impl Section for Failed<'_> {
         }
     }
 
+    #[inline(always)]
     fn put(&self, w: &mut Writer<'_>) {
         match self.faulty {
             None => {}
