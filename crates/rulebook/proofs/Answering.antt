@@ -42,10 +42,3 @@ rank_narrow needs ten rank =
 pub rows_kept : (afs : List Af) → rows (map kept_entry afs) ≡ map kept_row afs
 rows_kept [] = refl
 rows_kept (a ∷ afs) = ap (λ (rs : List Row). kept_row a ∷ rs) (rows_kept afs)
-
-pub mapped : {X Y : Type 0} (f : X → Y) (xs : List X) (ys : List Y) → length ys ≡ length xs
-    → ((k : ℕ) (d : X) (e : Y) → k < length xs → get_or ys k e ≡ f (get_or xs k d)) → ys ≡ map f xs
-mapped f [] [] l h = refl
-mapped f [] (y ∷ ys) l h = absurd (omega arith)
-mapped f (x ∷ xs) [] l h = absurd (omega arith)
-mapped f (x ∷ xs) (y ∷ ys) l h = λ i. h 0 x y (omega arith) i ∷ mapped f xs ys (omega arith) (λ k d e j. h (suc k) d e (omega arith)) i

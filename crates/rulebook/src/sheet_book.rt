@@ -24,8 +24,13 @@ impl SheetBook {
         ensures rights { rights result ≡ rows (listing sheet.now) }
         ensures answers { AnswersBy (rows (listing sheet.now)) result }
     {
+        // Not `sheet.afs.map`: that takes the array with its names by value, and moves them all.
+        let mut rows = [Row::default(); 32];
+        for (k, af) in sheet.afs.iter().enumerate() {
+            rows[k] = Row::from(af.rights);
+        }
         SheetBook {
-            rows: sheet.afs.map(|af| Row::from(af.rights)),
+            rows,
             count: sheet.len,
         }
     }
