@@ -31,7 +31,7 @@ impl Iterator for Fields {
     fn next(&mut self) -> Option<Field> {
         let lowest = self.rest.bits().trailing_zeros();
         let field = Field::try_from(lowest as u8).ok()?;
-        self.rest = self.rest.difference(field.alone());
+        self.rest = self.rest.without_lowest();
         Some(field)
     }
 }

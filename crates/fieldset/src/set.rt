@@ -1,5 +1,5 @@
 //! A set of the numbers below a width, in the bits of one number.
-ghost use Rattle.std.specs.Prelude.{◌≡◌, ℕ, ◌%◌, ◌^◌, ◌<◌, ◌≤◌, min, true, not, ◌&&◌, ◌||◌, length, Some, None, ◌==◌, ◌≢◌, bit_and, bit_or, count_ones};
+ghost use Rattle.std.specs.Prelude.{◌≡◌, ℕ, ◌-◌, ◌%◌, ◌^◌, ◌<◌, ◌≤◌, min, true, not, ◌&&◌, ◌||◌, length, Some, None, ◌==◌, ◌≢◌, bit_and, bit_or, count_ones};
 ghost use Rattle.fieldset.specs.Sets.{has, minus, inside, how_many, members};
 
 /// A set of numbers below `WIDTH`: `k` is a member where bit `k` is set. Numbers from 16 on are never members.
@@ -113,6 +113,17 @@ impl<const WIDTH: u32> BitSet<WIDTH> {
     {
         BitSet {
             bits: self.bits & !other.bits,
+        }
+    }
+
+    /// The set without its lowest member.
+    // Not the difference with that member alone: it is worked out from the set, and the next step waits for it.
+    pub(crate) fn without_lowest(self) -> Self
+        requires { 0 < self.bits }
+        ensures { result.bits ≡ bit_and self.entry.bits (self.entry.bits - 1) }
+    {
+        BitSet {
+            bits: self.bits & (self.bits - 1),
         }
     }
 
