@@ -107,7 +107,7 @@ impl<S: FieldSource> Closed<'_, '_, '_, S> {
         ensures size { result ≡ length (answer_bytes (closed_of S.value self.entry)) }
         ensures within { result ≤ buffer_least }
     {
-        // The length is counted anew: without a bound on the type, no invariant says that it is `size`.
+        // The length is counted anew, since no invariant says that it is `size`.
         let Closed { content, size: _ } = self;
         let header = answer_header(content.request, content.code, content.size());
         write_message(out, header, &content.body())

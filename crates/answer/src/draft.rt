@@ -1,4 +1,7 @@
 //! An answer while it is put together, and when its length is fixed.
+ghost use Rattle.std.specs.Prelude.{◌≤◌};
+ghost use Rattle.message.specs.Limits.{buffer_least};
+
 use crate::content::Content;
 
 /// An answer that parts may be added to. It is not `Drop`: it ends in `close`.
@@ -10,4 +13,6 @@ pub struct Draft<'m, 'o, 's, S> {
 pub struct Closed<'m, 'o, 's, S> {
     pub(crate) content: Content<'m, 'o, 's, S>,
     pub(crate) size: usize,
+    // That `size` is the answer's length no invariant can say: the bytes of the values are a word of the source's trait, and the type asks no bound.
+    ghost within: { size ≤ buffer_least },
 }
