@@ -2,10 +2,11 @@
 --     kind a                   which known AVP a is
 --     stranger l               9: the first AVP that has to be understood and is unknown, at level 1 or directly in an address
 --     stranger_in a            the one that a gives: a itself, or the first directly in it where it is an address
---     unsupported_by k a, stranger_by k a, misfit_by after k a   the same of an AVP a that is known as k
+--     unsupported_by k a, stranger_by k a   what a alone has of it, and what it gives, where k is the known AVP of its name
 --     repeated seen l          10: the first AVP that may stand once and stands again, where `seen` says which stood before
 --     missing command l        11: the first AVP, in the order of report, that the command needs and that is not there
 --     misfit after l           12: the first AVP whose data are wrong; an end has to be later than `after`, where there is such a time
+--     misfit_by after k a      a itself, where its data are wrong, and k is the known AVP of its name
 --     foreign name l           13: the AF-Application-Identifier, where it is not the name of the application function that asks
 --     deadline command now l   the time that an end has to be later than: now when subscribing
 use Rattle.std.specs.Prelude.{ℕ, Bool, true, false, cond, not, ◌&&◌, ◌||◌, List, [], ◌∷◌, ◌++◌, length, is_some, Some, None, Option, ◌==◌}

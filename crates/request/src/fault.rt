@@ -11,15 +11,15 @@ use diameter::search::AvpTest;
 use dictionary::known::Known;
 use dictionary::number::Time;
 
-/// Whether an AVP, which is known as `known`, has to be understood and is unknown.
+/// Whether an AVP has to be understood and is unknown, where `known` is the known AVP of its name, if there is one.
 fn is_unsupported(avp: AvpView<'_>, known: Option<Known>) -> bool
     ensures { result ≡ unsupported_by known (avp_of avp.entry) }
 {
     avp.is_mandatory() && known.is_none()
 }
 
-/// The AVP itself, or the first directly in it where it is an address, that has to be understood and is unknown. The AVP itself is
-/// known as `known`.
+/// The AVP itself, or the first directly in it where it is an address, that has to be understood and is unknown; `known` is the
+/// known AVP of its own name, if there is one.
 pub(crate) fn stranger_in<'a>(avp: AvpView<'a>, known: Option<Known>) -> Option<AvpView<'a>>
     ensures { found result ≡ stranger_by known (avp_of avp.entry) }
 {

@@ -5,7 +5,7 @@ ghost use Rattle.diameter.specs.Lists.{avps, first_such};
 ghost use Rattle.diameter.specs.Views.{avp_of, found};
 ghost use Rattle.dictionary.specs.Addresses.{address_in};
 ghost use Rattle.fieldset.specs.declared.set.BitSet.{BitSet};
-ghost use Rattle.request.specs.Faults.{is, first, is_session, lacking, needed_by, missing, there, subscribes, deadline, foreign};
+ghost use Rattle.request.specs.Faults.{is, first, is_session, subscribes, deadline, foreign};
 ghost use Rattle.request.specs.Askings.{copied, lacks, subject_of, refused, rejected_of, asked_of, asking_of, reading_of};
 ghost use Rattle.request.specs.Readings.{with_first, first_fault, faults, payload_at, requested, events, end, asked, by_address, asking, reading, right_session, session_id};
 

@@ -13,7 +13,7 @@ use dictionary::known::Known;
 use dictionary::number::Time;
 use e2::Command;
 
-/// What a walk notes: the first AVP that stands again, the first whose data are wrong, and which known AVPs are there.
+/// What a walk notes: the first AVP that may stand once and stands again, the first whose data are wrong, and which known AVPs are there.
 #[derive(Clone, Copy)]
 pub(crate) struct Scan<'a> {
     pub(crate) repeat: Option<AvpView<'a>>,
